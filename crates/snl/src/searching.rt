@@ -24,7 +24,11 @@ pub struct Clock<'c> {
     begun: Option<Instant>,
     /// When that was told last.
     told: Option<Instant>,
-    /// How long the call may take.
+    /// How many seconds the call may take.
+    seconds: u32,
+    /// Since when in the call the search runs, of two searches the one that runs now.
+    since: Duration,
+    /// How long after the call began it has to be over.
     most: Duration,
     /// How long it takes at most to check the levels that are whole: no longer than to search them, since it does each line once.
     check: Duration,
@@ -42,9 +46,18 @@ impl<'c> Clock<'c> {
             rt,
             begun,
             told,
+            seconds,
+            since: Duration::from_secs(0),
             most: Duration::from_secs(u64::from(seconds)),
             check: Duration::from_secs(0),
         }
+    }
+
+    /// How long the call takes by now; None where there is no clock.
+    fn passed(&self) -> Option<Duration> {
+        let begun = self.begun?;
+        let now = Instant::now(self.rt).ok()?;
+        Some(now.duration_since(begun))
     }
 }
 
@@ -78,18 +91,26 @@ impl Watches for Clock<'_> {
     }
 
     fn has_time(&mut self) -> bool {
-        let Some(begun) = self.begun else {
+        let Some(passed) = self.passed() else {
             return true;
         };
-        let Ok(now) = Instant::now(self.rt) else {
-            return true;
-        };
-        let passed = now.duration_since(begun);
-        let has_time = passed.saturating_add(passed) < self.most;
+        let took = passed.saturating_sub(self.since);
+        let has_time = passed.saturating_add(took) < self.most;
         if has_time {
-            self.check = passed;
+            self.check = took;
         }
         has_time
+    }
+
+    fn halve(&mut self) {
+        self.most = Duration::from_millis(u64::from(self.seconds).saturating_mul(500));
+    }
+
+    fn go_on(&mut self) {
+        self.most = Duration::from_secs(u64::from(self.seconds));
+        if let Some(passed) = self.passed() {
+            self.since = passed;
+        }
     }
 }
 

@@ -12,10 +12,6 @@ use snl_import::{
 use snl_logs::moment_of;
 use snl_units::ChannelUnits;
 use std::alloc::{AllocError, Global};
-use std::io::BufWriter;
-
-/// How many bytes of output are held back at most.
-const OUTPUT_HELD: usize = 65_536;
 
 /// Nanoseconds of a second.
 const SECOND: u64 = 1_000_000_000;
@@ -153,11 +149,9 @@ fn written<P: Program + Drop>(
     program: P,
     feeds: &mut [LogFeed<'_>],
 ) -> Result<Imported, Status> {
-    let outlet = Outlet::new(rt.stdout());
-    let Ok(writer) = BufWriter::with_capacity(rt.alloc(), OUTPUT_HELD, outlet) else {
+    let Ok(mut lines) = Lines::new(rt.alloc(), Outlet::new(rt.stdout())) else {
         return Err(Status::Memory);
     };
-    let mut lines = Lines::new(writer);
     let imported = import(rt.alloc(), wishes, program, feeds, &mut lines);
     let finished = lines.finish();
     match imported {

@@ -5,10 +5,10 @@ ghost use Rattle.std.specs.Prelude.{◌≡◌, ◌-◌, ◌^◌, ◌<◌, [], If
 use snc::{Answered, Status};
 use snc_cli::Stream;
 use snl_cli::{Folder, Halt, Verdict, path_in, small_text, stuck, wrong};
+use snl_coverage::Runner;
 use snl_suite::{Agreement, Day, difference_text, push_visible};
 use snl_trace::{End, Source};
 use snl_trials::{Nothing, Trial, tried, untried};
-use snl_views::Runner;
 use std::alloc::{AllocError, Global};
 use std::fs::File;
 

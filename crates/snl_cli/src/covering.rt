@@ -11,8 +11,9 @@ use crate::wholes::paths_in;
 use snc::{Answered, Status, status_of};
 use snc_cli::{tell, write};
 use snl_args::CoverWords;
+use snl_coverage::{Coverage, Runner, coverage_text, gaps_of, runner_of};
 use snl_trace::{End, Source};
-use snl_views::{Coverage, Overheard, Runner, coverage_text, gaps_of, runner_of};
+use snl_views::Overheard;
 use snl_watch::Nowhere;
 use std::alloc::AllocError;
 

@@ -7,8 +7,9 @@ use crate::overhearing::tell_bad_line;
 use snc::{Answered, Status, status_of};
 use snc_cli::write;
 use snl_args::GraphWords;
+use snl_coverage::{Runner, graph, runner_of};
 use snl_trace::End;
-use snl_views::{Overheard, Runner, graph, runner_of};
+use snl_views::Overheard;
 use snl_watch::Nowhere;
 
 /// Writes the picture of a program, which tells counts or does not; answers the status, which is that of the run, if there was one.

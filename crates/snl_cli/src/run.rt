@@ -10,10 +10,6 @@ use snl_args::RunWords;
 use snl_trace::End;
 use snl_views::{RunAnswer, Subject, run_folded, run_whole};
 use snl_watch::Nowhere;
-use std::io::BufWriter;
-
-/// How many bytes of output are held back at most.
-pub const OUTPUT_HELD: usize = 65_536;
 
 /// Writes what looks wrong with the times of the trace, and where its units differ, behind the summary, where all of that was written.
 /// Answers whether all is written.
@@ -79,12 +75,10 @@ fn answered_plain<'c>(
         ..
     } = asked;
     let subject = Subject { source, units };
-    let outlet = Outlet::new(rt.stdout());
-    let Ok(writer) = BufWriter::with_capacity(rt.alloc(), OUTPUT_HELD, outlet) else {
+    let Ok(lines) = Lines::new(rt.alloc(), Outlet::new(rt.stdout())) else {
         return Err(Status::Memory);
     };
     let trace = Input::new(rt, call.progress, asked.compared())?;
-    let lines = Lines::new(writer);
     if is_whole {
         match run_whole(rt.alloc(), subject, &call.job, trace, lines) {
             Ok(mut answer) => {

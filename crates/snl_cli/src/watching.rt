@@ -6,14 +6,12 @@ use crate::asked::Asked;
 use crate::comparing::notes_of;
 use crate::input::Input;
 use crate::overhearing::{clock_text, status_with, tell_bad_line, units_text};
-use crate::run::OUTPUT_HELD;
 use snc::{Answered, Status};
 use snc_args::Job;
 use snc_cli::{Lines, Outlet, source_in, tell, write};
 use snl_args::Call;
 use snl_observer::{Observed, Place, Program, observe, program_of};
 use std::alloc::AllocError;
-use std::io::BufWriter;
 
 /// What came of both sources.
 #[derive(Drop)]
@@ -127,12 +125,10 @@ fn observed<'c>(
     watch: &mut Program,
     places: Vec<Place>,
 ) -> Result<Status, Status> {
-    let outlet = Outlet::new(rt.stdout());
-    let Ok(writer) = BufWriter::with_capacity(rt.alloc(), OUTPUT_HELD, outlet) else {
+    let Ok(lines) = Lines::new(rt.alloc(), Outlet::new(rt.stdout())) else {
         return Err(Status::Memory);
     };
     let mut trace = Input::new(rt, asked.call.progress, asked.compared())?;
-    let lines = Lines::new(writer);
     match observe(rt.alloc(), run, watch, places, &mut trace, lines) {
         Ok(mut observed) => {
             let status = told(rt, &trace, &mut observed)?;

@@ -4,7 +4,7 @@ use Rattle.snl_names.specs.declared.options.Options.{Options}
 use Rattle.snl_syntax.specs.Programs.{ProgramTree}
 use Rattle.snl_trace.specs.declared.runner.End.{End}
 use Rattle.snl_trials.specs.Right.{HasRun}
-use Rattle.snl_views.specs.Runs.{RunsWith}
+use Rattle.snc.specs.Runs.{RunsWith}
 
 -- what a sink told that was told nothing before is the output of the run
 pub has-run : (macros : List ℕ) (budget : ℕ) (gave : List ℕ) (ended : Bool) (before told output : List ℕ) (whole : ProgramTree) (options : Options) (end : End) (is : Option End) →

@@ -6,7 +6,7 @@ use Rattle.snl_suite.specs.declared.agreement.Agreement.{Agreement}
 use Rattle.snl_suite.specs.declared.agreement.Agreement.TheVariants.{Broken}
 use Rattle.snl_syntax.specs.Programs.{ProgramTree}
 use Rattle.snl_trace.specs.declared.runner.End.{End}
-use Rattle.snl_views.specs.Runs.{RunsWith}
+use Rattle.snc.specs.Runs.{RunsWith}
 
 -- A run is right: its output is what the file of the wanted one has, and its status is the one that is wanted.
 pub record IsRight (output file : List ℕ) (status wanted : ℕ) : Type 0 where

@@ -21,20 +21,33 @@ pub struct SearchTrial {
     pub is_right: bool,
 }
 
-/// Whether an answer says that nothing is to be found; by any number of lines, where that is asked for.
+/// Whether traces were searched as they have to be: any number of lines, where that is asked for, and nothing was left out.
+fn is_enough(none: &Searched, is_ever: bool) -> bool
+    ensures ever { IsTrue result → IsTrue is_ever → none.now.bound ≡ None }
+    ensures whole { IsTrue result → none.now.omissions.items ≡ [] }
+{
+    if !none.omissions.is_empty() {
+        return false;
+    }
+    !is_ever || none.bound.is_none()
+}
+
+/// Whether an answer says that nothing is to be found, and leaves nothing out; by any number of lines, where that is asked for.
 fn is_certain(answer: &SearchAnswer, is_ever: bool) -> bool
     ensures nothing { IsTrue result → answer.now.verdict ≡ Verdict.Nothing }
     ensures ever { IsTrue result → IsTrue is_ever →
         IsSomeAnd answer.now.none (λ some. some.bound ≡ None) }
+    ensures whole { IsTrue result →
+        IsSomeAnd answer.now.none (λ some. some.omissions.items ≡ []) }
 {
     match (answer.verdict, &answer.none) {
-        (Verdict::Nothing, Some(none)) => !is_ever || none.bound.is_none(),
+        (Verdict::Nothing, Some(none)) => is_enough(none, is_ever),
         _ => false,
     }
 }
 
 /// Searches traces of a checked program over a small alphabet, the shortest first, for what it must not do. Answers whether it is certain
-/// that none of them does it: of those with as many lines as are wished, or of all. The program is dropped.
+/// that none of them does it: of those with as many lines as are wished, or of all, and with no overflow left out. The program is dropped.
 ///
 /// What is wrong with the wishes is an error; so is that memory ran out.
 pub fn sought<T: Scouts + Drop, W: Watches + Drop>(
@@ -51,6 +64,8 @@ pub fn sought<T: Scouts + Drop, W: Watches + Drop>(
         (map string_bytes wishes.now.ends.items) t.text.items some)) }
     ensures reaches { IfOk result (λ t. IsTrue t.is_right → IsSomeAnd t.none (λ some.
         Reaches is_ever wishes.now.bounds.lines some.bound)) }
+    ensures whole { IfOk result (λ t. IsTrue t.is_right → IsSomeAnd t.none (λ some.
+        some.omissions.items ≡ [])) }
 {
     let macros = macros_of(job);
     let answer = search(alloc, checked, &macros, job.budget, wishes, watch)?;

@@ -5,12 +5,12 @@ ghost use Rattle.snc.specs.Outcomes.{code_of};
 ghost use Rattle.snl_names.specs.declared.options.Options.{Options};
 ghost use Rattle.snl_syntax.specs.Programs.{ProgramTree};
 ghost use Rattle.snl_trials.specs.Right.{HasRun, IsToldExactly};
-ghost use Rattle.snl_views.specs.Runners.{IsRunner};
+ghost use Rattle.snl_coverage.specs.Runners.{IsRunner};
 
 use snc::{Status, status_of};
+use snl_coverage::{Covered, Runner};
 use snl_suite::{Agreement, Comparer};
 use snl_trace::{End, Source};
-use snl_views::{Covered, Runner};
 use std::alloc::{AllocError, Global};
 
 /// What came of a test.
