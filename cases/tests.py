@@ -68,6 +68,17 @@ MISTAKE = """
   mistake of the requirement: its line 5 faults: division by zero (line 5 of the trace)
   requirement rule in off since 0 (1 of 1 state set)
 """
+# Its counter goes on for ever, and nothing hangs on it.
+TALLY = """program tally option +s;
+int v; assign v to "V"; monitor v;
+int count; assign count to "COUNT";
+ss s { state a { when (v) { v = 0; count++; } state a } }
+"""
+LEFT_OUT = """
+  starts: 2; V 0 1
+  channels: V 0 1; gaps: 0, wake
+  never, but an overflow of count (line 4) (2 worlds; 1 of 1 clause)
+"""
 WRONG = "program wrong option +s;\nss s { state a { when (y) {} state a } }\n"
 
 
@@ -288,6 +299,9 @@ def nevers():
     yield Suite("snl test: what may not be found without a program", lost, ("test", "."), f"{front}{said}1 passed, 2 failed\n", status=1)
     wrong = {"wrong.st": WRONG, "wrong.out": "", "wrong.status": "1\n", "wrong.never": "ever\n"}
     said = "FAILED wrong.never: the program has errors\n  wrong.st:2: error: E13 'y' is not declared\n"
+    tally = {"tally.st": TALLY, "tally.out": "", "tally.never": "ever\n--worlds 40\n"}
+    tallied = "ok tally\ntally: 0 of 1 clauses taken, 0 of 1 states entered, 0 of 0 channels put\n"
+    yield Suite("snl test: a search that leaves an overflow out", tally, ("test", "."), f"{tallied}FAILED tally.never{LEFT_OUT}1 passed, 1 failed\n", status=1)
     yield Suite("snl test: what may not be found in a program with errors", wrong, ("test", "."), f"ok wrong\n{said}1 passed, 1 failed\n", status=1)
 
 
