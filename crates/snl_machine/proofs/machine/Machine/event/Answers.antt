@@ -36,7 +36,7 @@ pub returns-clause-does : goal.returns-clause-does
 returns-clause-does g c =
     let m = c.args.self.now in
     let same = handed-is m c.instrs.result.now (map spelled_in c.as_slice.result.now) c.functions.result.now c.depth.result
-    c.instrs.ensures (ap (map spelled_in) c.as_slice.ensures ∙ m.formats_are) c.functions.ensures c.depth.ensures in
+    c.instrs.ensures (ap (map spelled_in) c.as_slice.ensures.value ∙ m.formats_are) c.functions.ensures c.depth.ensures in
     subst (λ (t : Loaded). Does {V = Live} {A = Live} (λ live. live) c.take.result (world_of c.take.new.memory.store) (g.S.Sink.told c.args.sink.now) (g.S.Sink.told c.take.new.sink)
     (line_of (program_of t) m.budget c.args.ms c.args.event.now (world_held m))) same c.take.ensures.does
 
@@ -44,14 +44,14 @@ pub returns-clause-steps : goal.returns-clause-steps
 returns-clause-steps g c =
     let m = c.args.self.now in
     let same = handed-is m c.instrs.result.now (map spelled_in c.as_slice.result.now) c.functions.result.now c.depth.result
-    c.instrs.ensures (ap (map spelled_in) c.as_slice.ensures ∙ m.formats_are) c.functions.ensures c.depth.ensures in
+    c.instrs.ensures (ap (map spelled_in) c.as_slice.ensures.value ∙ m.formats_are) c.functions.ensures c.depth.ensures in
     subst (λ (t : Loaded). Adds c.take.result (line_steps t m.budget c.args.ms c.args.event.now (world_held m)) c.args.steps.now c.take.new.steps) same c.take.ensures.steps
 
 pub returns-clause-time : goal.returns-clause-time
 returns-clause-time g c =
     let m = c.args.self.now in
     let same = handed-is m c.instrs.result.now (map spelled_in c.as_slice.result.now) c.functions.result.now c.depth.result
-    c.instrs.ensures (ap (map spelled_in) c.as_slice.ensures ∙ m.formats_are) c.functions.ensures c.depth.ensures in
+    c.instrs.ensures (ap (map spelled_in) c.as_slice.ensures.value ∙ m.formats_are) c.functions.ensures c.depth.ensures in
     subst (λ (t : Loaded). OnErr c.take.result (HasInstant (program_of t) m.budget c.args.ms (world_held m) (world_of c.take.new.memory.store).time)) same c.take.ensures.time
 
 -- the words that it holds stay
