@@ -3,22 +3,6 @@
 //! The answer goes to standard output, all else to standard error.
 #![tactic(auto)]
 
-mod blessing;
-mod contrasting;
-mod guarding;
-mod joining;
-mod nevers;
-mod requirements;
-mod searching;
-mod testing;
-mod tracing;
-mod trying;
-mod units;
-
-use contrasting::answered_contrast;
-use guarding::answered_guard;
-use joining::answered_join;
-use searching::answered_search;
 use snc::Status;
 use snc_cli::{source_in, tell, words_of, write};
 use snl_args::{Call, CallFault, SameWords, SearchWords, Word, read_call};
@@ -27,11 +11,12 @@ use snl_cli::{
     answered_same, answered_sets, answered_tree, answered_waits, check_counts, check_lints,
     check_macros, check_outputs, notes_of,
 };
+use snl_pair_cli::{answered_contrast, answered_guard};
+use snl_search_cli::{answered_join, answered_search};
+use snl_test_cli::{answered_test, check_tests};
+use snl_trace_cli::{answered_trace, check_times, units_for};
 use std::process::ExitCode;
 use std::time::Instant;
-use testing::{answered_test, check_tests};
-use tracing::{answered_trace, check_times};
-use units::units_for;
 
 fn main(rt: HostRuntime) -> ExitCode {
     let begun = Instant::now(&rt).ok();

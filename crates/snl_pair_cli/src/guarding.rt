@@ -1,8 +1,6 @@
 //! `snl search --watch`.
 
 use crate::contrasting::{Wished, wishes_of};
-use crate::searching::{Clock, recorded, told_fault};
-use crate::units::wished_values;
 use snc::{Answered, Judgement, Status, judged, macros_of};
 use snc_args::Job;
 use snc_cli::{source_in, tell, write};
@@ -14,6 +12,7 @@ use snl_machine::Machine;
 use snl_observer::{Place, program_of};
 use snl_safety::Forbidden;
 use snl_search::{Heard, Limits, Watches, WishFault};
+use snl_search_cli::{Clock, recorded, told_fault, wished_values};
 use std::alloc::{AllocError, Global};
 use std::fs::File;
 use std::time::Instant;

@@ -1,7 +1,5 @@
 //! `snl same --search`.
 
-use crate::searching::{Clock, owned, recorded, times_of, told_fault};
-use crate::units::{units_for, wished_values};
 use snc::{Judgement, Status, judged, macros_of};
 use snc_cli::{source_in, write};
 use snl_args::{Call, SameWords, SearchWords};
@@ -12,6 +10,8 @@ use snl_equivalence::{
 };
 use snl_same::{Filter, Side};
 use snl_search::{Bounds, Limits, Watches, WishedValues};
+use snl_search_cli::{Clock, owned, recorded, times_of, told_fault, wished_values};
+use snl_trace_cli::units_for;
 use std::alloc::{AllocError, Global};
 use std::fs::File;
 use std::time::Instant;

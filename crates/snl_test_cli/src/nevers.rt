@@ -1,6 +1,5 @@
 //! What no search may find: the test of `NAME.never`.
 
-use crate::searching::{Clock, wishes_over};
 use crate::trying::push_lines;
 use snc::{Job, Judgement, Status, judged};
 use snl_args::{Call, CallFault, SearchWords, Word, read_call};
@@ -8,6 +7,7 @@ use snl_cli::{
     Folder, Halt, Verdict, job_of, program_source, small_text, stuck, wrong, wrong_bytes,
 };
 use snl_search::{Scouts, WishFault};
+use snl_search_cli::{Clock, wishes_over};
 use snl_suite::{Never, Program, never_in};
 use snl_trials::{SearchTrial, sought};
 use std::alloc::{AllocError, Global};
