@@ -2,6 +2,7 @@
 
 use snc::{Judgement, Status, judged, macros_of};
 use snc_cli::{source_in, write};
+use snl_alphabet::{Bounds, Limits, Watches, WishedValues};
 use snl_args::{Call, SameWords, SearchWords};
 use snl_cli::{Both, both_of, tell_messages, write_trace};
 use snl_equivalence::{
@@ -9,7 +10,6 @@ use snl_equivalence::{
     search_pair,
 };
 use snl_same::{Filter, Side};
-use snl_search::{Bounds, Limits, Watches, WishedValues};
 use snl_search_cli::{Clock, owned, recorded, times_of, told_fault, wished_values};
 use snl_trace_cli::units_for;
 use std::alloc::{AllocError, Global};

@@ -4,6 +4,7 @@ use crate::contrasting::{Wished, wishes_of};
 use snc::{Answered, Judgement, Status, judged, macros_of};
 use snc_args::Job;
 use snc_cli::{source_in, tell, write};
+use snl_alphabet::{Heard, Limits, Watches, WishFault};
 use snl_args::SearchWords;
 use snl_cli::{Asked, WatchPair, check_both, job_of_file, places_of, watch_pair_of, write_trace};
 use snl_equivalence::PairWishes;
@@ -11,7 +12,6 @@ use snl_guards::{Crew, Watched, WatchedAnswer, WatchedQuestion, heard_by, search
 use snl_machine::Machine;
 use snl_observer::{Place, program_of};
 use snl_safety::Forbidden;
-use snl_search::{Heard, Limits, Watches, WishFault};
 use snl_search_cli::{Clock, recorded, told_fault, wished_values};
 use std::alloc::{AllocError, Global};
 use std::fs::File;

@@ -2,10 +2,10 @@
 
 use snc::Status;
 use snc_cli::write;
+use snl_alphabet::Verdict;
 use snl_args::JoinWords;
 use snl_cli::whole_of;
 use snl_joins::{Answer, Certain, End, answer_of, certain_of, first_missing, is_of_same};
-use snl_search::Verdict;
 use std::alloc::AllocError;
 
 /// The texts of answers. Where one cannot be read, or is no text, the user is told.

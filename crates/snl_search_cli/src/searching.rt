@@ -3,13 +3,14 @@
 use crate::units::{wished_lines, wished_values};
 use snc::{Judgement, Status, judged, macros_of};
 use snc_cli::write;
+use snl_alphabet::{
+    Bounds, Day, Limits, Stops, Verdict, Watches, WishFault, WishedValues, Wishes, trace_in,
+};
 use snl_args::{SearchWords, StopWords};
 use snl_cli::{Asked, part_of, write_suite, write_trace};
 use snl_joins::Part;
-use snl_search::{
-    Bounds, Day, Limits, Scouts, SearchAnswer, Stops, Verdict, Watches, WishFault, WishedValues,
-    Wishes, search, trace_in,
-};
+use snl_lexicon::Scouts;
+use snl_search::{SearchAnswer, search};
 use snl_units::ChannelUnits;
 use std::alloc::{AllocError, Global};
 use std::fs::File;

@@ -1,8 +1,8 @@
 //! The words of a search in the units of a call.
 
 use snc::Status;
+use snl_alphabet::WishedValues;
 use snl_args::ChannelValues;
-use snl_search::WishedValues;
 use snl_units::{ChannelUnits, PutFault, ValueFault, line_in_units, value_of};
 use std::alloc::{AllocError, Global};
 

@@ -2,11 +2,12 @@
 
 use crate::trying::push_lines;
 use snc::{Job, Judgement, Status, judged};
+use snl_alphabet::WishFault;
 use snl_args::{Call, CallFault, SearchWords, Word, read_call};
 use snl_cli::{
     Folder, Halt, Verdict, job_of, program_source, small_text, stuck, wrong, wrong_bytes,
 };
-use snl_search::{Scouts, WishFault};
+use snl_lexicon::Scouts;
 use snl_search_cli::{Clock, wishes_over};
 use snl_suite::{Never, Program, never_in};
 use snl_trials::{SearchTrial, sought};

@@ -7,7 +7,9 @@ ghost use Rattle.snl_trials.specs.Certain.{Reaches};
 
 use snc::macros_of;
 use snc_args::Job;
-use snl_search::{Scouts, SearchAnswer, Searched, Verdict, Watches, WishFault, Wishes, search};
+use snl_alphabet::{Verdict, Watches, WishFault, Wishes};
+use snl_lexicon::Scouts;
+use snl_search::{SearchAnswer, Searched, search};
 use std::alloc::Global;
 
 /// What came of a search.

@@ -1,0 +1,22 @@
+//! What a search needs of a program: its names, what words of a call mean by them, and the machines that are loaded of it.
+//!
+//! `wanted_of` makes of words what a search looks for: ends of lines of the output.
+#![tactic(auto)]
+
+mod coming;
+mod looking;
+mod meanings;
+mod names;
+mod never;
+mod puts;
+mod scouting;
+mod spelling;
+mod unwritten;
+mod wanted;
+mod wrongs;
+
+pub use meanings::Lexicon;
+pub use names::{Names, Store};
+pub use puts::{begins_program, cut, has_end, put_twice};
+pub use scouting::{Ground, Machines, Said, Scouted, Scouts, scouted_by};
+pub use wanted::{Wanted, WishedEnd, wanted_of};
