@@ -67,7 +67,7 @@ def ends(programs, folder, source, seconds, *words):
     """A search that is not whole ends in time, and says so; what it says is certain was checked."""
     out, _, status, took = searched(programs, folder, source, ["--seconds", str(seconds), *words])
     last = out.splitlines()[-1] if out else ""
-    if status != 7 or not re.match(r"not all was seen: (none up to \d+ lines? \(|nothing found in \d+ worlds?, 0 whole levels \(not certified)", last):
+    if status != 7 or not re.match(r"not all was seen: (none up to \d+ lines?(, but an overflow of .*)? \(|nothing found in \d+ worlds?, 0 whole levels \(not certified)", last):
         return f"status {status}, {last!r}"
     return "" if took < seconds + SLACK else f"{took:.1f} seconds, and {seconds} were said"
 
