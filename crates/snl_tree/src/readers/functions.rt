@@ -13,7 +13,7 @@ ghost use Rattle.snl_syntax.specs.view.Functions.{parameter_view, parameter_view
 ghost use Rattle.snl_syntax.specs.view.Definitions.{definition_view, definition_views};
 
 use crate::readers::boxes::definitions::push_variables;
-use crate::readers::boxes::functions::{boxed_function, push_function};
+use crate::readers::boxes::functions::push_function;
 use crate::readers::cursor::{Cursor, Halt, at, sign, token};
 use crate::readers::declarations::{at_declaration, declarator_of, declarators_of, type_name};
 use crate::readers::definitions::other;
@@ -99,8 +99,7 @@ fn function<'a, 't>(
     let parameters = parameters(alloc, cursor)?;
     sign(cursor, Kind::CloseParenthesis)?;
     let body = block(alloc, cursor, depth, depth)?;
-    let function = boxed_function(alloc, type_name, name, parameters, body)?;
-    push_function(row, function)
+    push_function(alloc, row, type_name, name, parameters, body)
 }
 
 /// Reads a declaration from behind its first name on, and puts it at the end of a row.

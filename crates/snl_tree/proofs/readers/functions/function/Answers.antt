@@ -23,7 +23,3 @@ returns-in_err-body c = rw (function_form (shown type_view c.args.type_name) c.a
 -- a function is what the code builds
 pub returns : goal.returns
 returns c = rw (function_form (shown type_view c.args.type_name) c.args.name c.args.depth c.args.cursor.now.left.now) (search rules)
-
--- where the box is not made, nothing is put into the row
-pub returns-in_err-function : goal.returns-in_err-function
-returns-in_err-function c = rw (function_form (shown type_view c.args.type_name) c.args.name c.args.depth c.args.cursor.now.left.now) (search rules)
