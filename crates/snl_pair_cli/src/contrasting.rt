@@ -10,8 +10,8 @@ use snl_equivalence::{
     search_pair,
 };
 use snl_same::{Filter, Side};
-use snl_search_cli::{Clock, owned, recorded, times_of, told_fault, wished_values};
 use snl_trace_cli::units_for;
+use snl_wishes::{Clock, owned, recorded, times_of, told_fault, wished_values};
 use std::alloc::{AllocError, Global};
 use std::fs::File;
 use std::time::Instant;

@@ -12,7 +12,7 @@ use snl_guards::{Crew, Watched, WatchedAnswer, WatchedQuestion, heard_by, search
 use snl_machine::Machine;
 use snl_observer::{Place, program_of};
 use snl_safety::Forbidden;
-use snl_search_cli::{Clock, recorded, told_fault, wished_values};
+use snl_wishes::{Clock, recorded, told_fault, wished_values};
 use std::alloc::{AllocError, Global};
 use std::fs::File;
 use std::time::Instant;

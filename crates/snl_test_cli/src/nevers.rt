@@ -8,9 +8,9 @@ use snl_cli::{
     Folder, Halt, Verdict, job_of, program_source, small_text, stuck, wrong, wrong_bytes,
 };
 use snl_lexicon::Scouts;
-use snl_search_cli::{Clock, wishes_over};
 use snl_suite::{Never, Program, never_in};
 use snl_trials::{SearchTrial, sought};
+use snl_wishes::{Clock, wishes_over};
 use std::alloc::{AllocError, Global};
 use std::time::Instant;
 
