@@ -8,9 +8,9 @@ use snl_alphabet::{Heard, Limits, Watches, WishFault};
 use snl_args::SearchWords;
 use snl_cli::{Asked, WatchPair, check_both, job_of_file, places_of, watch_pair_of, write_trace};
 use snl_equivalence::PairWishes;
-use snl_guards::{Crew, Watched, WatchedAnswer, WatchedQuestion, heard_by, search_watched};
+use snl_guards::{Crew, Hears, Watched, WatchedAnswer, WatchedQuestion, heard_by, search_watched};
 use snl_machine::Machine;
-use snl_observer::{Place, program_of};
+use snl_observer::{Place, Program, program_of};
 use snl_safety::Forbidden;
 use snl_wishes::{Clock, recorded, told_fault, wished_values};
 use std::alloc::{AllocError, Global};
@@ -44,12 +44,22 @@ fn job_with(alloc: Global, job: &Job, budget: u32) -> Result<Job, AllocError> {
     Ok(same)
 }
 
+/// The program of a source with a budget; None where it has an error.
+fn player_of(
+    alloc: Global,
+    source: &[u8],
+    job: &Job,
+    budget: u32,
+) -> Result<Option<Box<Program>>, AllocError> {
+    let job = job_with(alloc, job, budget)?;
+    let Answered { made, .. } = program_of(alloc, source, &job)?;
+    Ok(made)
+}
+
 /// The program and the requirement, with a budget; None where one of them has an error.
 fn team_of(alloc: Global, guard: Guard, budget: u32) -> Result<Option<Watched>, AllocError> {
-    let job = job_with(alloc, &guard.asked.call.job, budget)?;
-    let Answered { made: run, .. } = program_of(alloc, guard.asked.source, &job)?;
-    let job = job_with(alloc, guard.job, budget)?;
-    let Answered { made: watch, .. } = program_of(alloc, guard.watch, &job)?;
+    let run = player_of(alloc, guard.asked.source, &guard.asked.call.job, budget)?;
+    let watch = player_of(alloc, guard.watch, guard.job, budget)?;
     match (run, watch) {
         (Some(run), Some(watch)) => Ok(Some(Watched { run, watch })),
         _ => Ok(None),
@@ -121,6 +131,24 @@ fn searched<'c>(
     }
 }
 
+/// What a program hears that may have an error; None where it has one. It is of a type parameter, since a function that knows a checked
+/// program and what is made of it is dear to prove.
+fn heard_if<T: Hears<W> + Drop, W: Watches>(
+    alloc: Global,
+    program: Option<Box<T>>,
+    job: &Job,
+    machine: &Machine,
+    like: &Option<File>,
+    limits: &mut Limits<W>,
+) -> Result<Option<Heard>, WishFault> {
+    let Some(program) = program else {
+        return Ok(None);
+    };
+    let macros = macros_of(job);
+    let heard = heard_by(alloc, program, machine, &macros, like, limits)?;
+    Ok(Some(heard))
+}
+
 /// What the program hears, by its source once more; None where that has an error.
 fn heard_in<W: Watches>(
     rt: &HostRuntime,
@@ -131,13 +159,10 @@ fn heard_in<W: Watches>(
 ) -> Result<Option<Heard>, WishFault> {
     let Asked { source, call, .. } = guard.asked;
     let job = &call.job;
-    let Judgement { checked, .. } = judged(rt.alloc(), job.file.as_bytes(), source, job.options)?;
-    let Some(checked) = checked else {
-        return Ok(None);
-    };
-    let macros = macros_of(job);
-    let heard = heard_by(rt.alloc(), checked, machine, &macros, like, limits)?;
-    Ok(Some(heard))
+    match judged(rt.alloc(), job.file.as_bytes(), source, job.options) {
+        Ok(Judgement { checked, .. }) => heard_if(rt.alloc(), checked, job, machine, like, limits),
+        Err(_) => Err(WishFault::Memory),
+    }
 }
 
 /// All teams, by the one that judges. None where a source has an error.

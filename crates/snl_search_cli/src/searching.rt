@@ -101,6 +101,21 @@ fn searched<T: Scouts + Drop>(
     }
 }
 
+/// Searches a program that may have an error. Answers the status. It is of a type parameter, since a function that knows a checked program
+/// is dear to prove.
+fn searched_if<T: Scouts + Drop>(
+    rt: &HostRuntime,
+    checked: Option<Box<T>>,
+    asked: Asked,
+    words: &SearchWords,
+    begun: Option<Instant>,
+) -> u8 {
+    match checked {
+        Some(checked) => searched(rt, checked, asked, words, begun),
+        None => Status::SourceErrors.code(),
+    }
+}
+
 /// `snl search`, of a call that began at a time. Answers the status. The messages come behind the answer.
 pub fn answered_search(
     rt: &HostRuntime,
@@ -112,10 +127,7 @@ pub fn answered_search(
     let file = call.job.file.as_bytes();
     match judged(rt.alloc(), file, source, call.job.options) {
         Ok(Judgement { messages, checked }) => {
-            let code = match checked {
-                Some(checked) => searched(rt, checked, asked, words, begun),
-                None => Status::SourceErrors.code(),
-            };
+            let code = searched_if(rt, checked, asked, words, begun);
             if code != Status::Memory.code() {
                 asked.tell(rt, messages.as_slice());
             }

@@ -196,6 +196,38 @@ pub fn wrong_source(alloc: Global, what: &str, messages: &[u8]) -> Result<Halt, 
     Ok(wrong_bytes(text))
 }
 
+/// What comes of a search of a program that may have errors, which its messages tell then. It is of a type parameter, since a function that
+/// knows a checked program is dear to prove.
+fn searched_if<T: Scouts + Drop>(
+    rt: &HostRuntime,
+    checked: Option<Box<T>>,
+    messages: &[u8],
+    job: &Job,
+    name: &str,
+    aim: &Aim,
+) -> Result<Verdict, Halt> {
+    match checked {
+        Some(checked) => searched(rt, checked, job, name, aim),
+        None => Err(wrong_source(rt.alloc(), "the program", messages)?),
+    }
+}
+
+/// What comes of a search of a source.
+fn tested_source(
+    rt: &HostRuntime,
+    source: &[u8],
+    job: &Job,
+    name: &str,
+    aim: &Aim,
+) -> Result<Verdict, Halt> {
+    match judged(rt.alloc(), job.file.as_bytes(), source, job.options) {
+        Ok(Judgement { messages, checked }) => {
+            searched_if(rt, checked, messages.as_slice(), job, name, aim)
+        }
+        Err(_) => Err(Halt::End(Status::Memory)),
+    }
+}
+
 /// What comes of a search for what may not be found. The options of the call count.
 pub fn tested_never(
     rt: &HostRuntime,
@@ -207,16 +239,5 @@ pub fn tested_never(
     let aim = aim_of(rt, folder, name)?;
     let job = job_of(rt, folder, program, call.job.options)?;
     let source = program_source(rt, job.file.as_str(), name, ".st")?;
-    match judged(
-        rt.alloc(),
-        job.file.as_bytes(),
-        source.as_slice(),
-        job.options,
-    ) {
-        Ok(Judgement { messages, checked }) => match checked {
-            Some(checked) => searched(rt, checked, &job, name, &aim),
-            None => Err(wrong_source(rt.alloc(), "the program", messages.as_slice())?),
-        },
-        Err(_) => Err(Halt::End(Status::Memory)),
-    }
+    tested_source(rt, source.as_slice(), &job, name, &aim)
 }
