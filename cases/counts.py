@@ -7,8 +7,8 @@ import requests
 
 ONES = "zero one two three four five six seven eight nine".split()
 TEENS = "ten eleven twelve thirteen fourteen fifteen sixteen seventeen eighteen nineteen".split()
-# The words of the numbers below eighty, as pages say them.
-NUMBERS = [*ONES, *TEENS, *(f"{tens}-{one}" if at else tens for tens in ("twenty", "thirty", "forty", "fifty", "sixty", "seventy") for at, one in enumerate(ONES))]
+# The words of the numbers below a hundred, as pages say them.
+NUMBERS = [*ONES, *TEENS, *(f"{tens}-{one}" if at else tens for tens in ("twenty", "thirty", "forty", "fifty", "sixty", "seventy", "eighty", "ninety") for at, one in enumerate(ONES))]
 # How many lines a page has at most.
 LINES = 800
 FUNCTION = re.compile(r"^\s*(?:pub(?:\(\w+\))? )?(?:const |unsafe )*fn \w", re.MULTILINE)
