@@ -17,8 +17,8 @@ answer() {
     local found
     found=$(sed -nE 's/^found: ([0-9]+ )?(.*), [0-9]+ lines? after .*/found: \2/p; s/^found: ([0-9]+ )?(.*), at the start.*/found: \2/p' "$1" | head -n 1)
     [ -z "$found" ] || { echo "$found"; return; }
-    tail -n 1 "$1" | sed -E 's/^(in vain: )?never \(([0-9]+) worlds?.*/\1never, \2/
-        s/^(not all was seen: )?none up to ([0-9]+ lines?) \(([0-9]+) worlds?.*/\3 up to \2/'
+    tail -n 1 "$1" | sed -E 's/^(in vain: )?never(, but an overflow of .*)? \(([0-9]+) worlds?.*/\1never\2, \3/
+        s/^(not all was seen: )?none up to ([0-9]+ lines?)(, but an overflow of .*)? \(([0-9]+) worlds?.*/\4 up to \2\3/'
 }
 
 # measure NAME SECONDS FILE

@@ -140,20 +140,6 @@ fn prepared<T: Prepares<W> + Drop, W: Watches>(
     Ok(Some(prepared))
 }
 
-/// The same of a program that may have an error; None where it has one.
-fn prepared_if<T: Prepares<W> + Drop, W: Watches>(
-    rt: &HostRuntime,
-    program: Option<Box<T>>,
-    asked: Asked,
-    like: &Option<File>,
-    limits: &mut Limits<W>,
-) -> Result<Option<Box<Prepared>>, AllocError> {
-    match program {
-        Some(program) => prepared(rt, program, asked, like, limits),
-        None => Ok(None),
-    }
-}
-
 /// Makes the program of a source ready for the search; None where it has an error.
 fn prepared_in<W: Watches>(
     rt: &HostRuntime,
@@ -163,7 +149,10 @@ fn prepared_in<W: Watches>(
 ) -> Result<Option<Box<Prepared>>, AllocError> {
     let name = source.file.as_bytes();
     match judged(rt.alloc(), name, source.text, asked.call.job.options) {
-        Ok(Judgement { checked, .. }) => prepared_if(rt, checked, asked, source.like, limits),
+        Ok(Judgement { checked, .. }) => match checked {
+            Some(checked) => prepared(rt, checked, asked, source.like, limits),
+            None => Ok(None),
+        },
         Err(error) => Err(error),
     }
 }
