@@ -46,7 +46,7 @@ class Bound:
 
 
 def cases():
-    yield Bound("snl search: --seconds holds while worlds are reached and checked", lambda *it: ends(*it, COUNTERS, 4, "--lines", "99"))
+    yield Bound("snl search: --seconds holds while worlds are reached and checked", lambda *it: ends(*it, COUNTERS, 4, "--lines", "99999"))
     yield Bound("snl search: --seconds cuts a line that runs past too many wakes", lambda *it: ends(*it, WAKING, 1, "--gaps", "1000000000000"))
     yield Bound("snl search: --seconds holds while a recorded trace is read", endless)
     yield Bound("snl search: --seconds holds while a day is read in which it starts", endless_day)
