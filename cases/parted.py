@@ -12,6 +12,13 @@ NOTE = "note: the answers are taken as they stand: this is their sum, and no pro
 FOREIGN = "no whole answer of 'snl search --part'"
 OTHER = "another search than that of the first answer: its program, words, values or version differ"
 
+# Its counter decides nothing, and goes on for ever.
+COUNTER = """program counter option +s;
+int x; assign x to "X"; monitor x;
+int n; assign n to "N";
+ss a { state s { when (x > 3) { n++; pvPut(n); } state t } state t { when (x < 2) {} state s } }
+"""
+
 
 def cases(root):
     for name, check in (
@@ -21,6 +28,7 @@ def cases(root):
         ("no trace of any length", ever),
         ("answers of other searches, and what is none", refused),
         ("the starts of a recorded day are shared", days),
+        ("no part leaves an overflow out", plain),
         ("wrong words", wrong_words),
     ):
         yield Tool(f"parts: {name}", lambda program, folder, check=check: prepared(root, program, folder, check))
@@ -175,6 +183,18 @@ def days(root, program, folder):
     (folder / "other.txt").write_text(called(program, folder, "search", "--part", "2/3", "--lines", "1", "--after", "longer.trace", "--every", "2", "p.st")[1])
     wrong.append(differs(join(program, folder, parts[0][0], "other.txt"), (3, "", f"snl: other.txt: {OTHER}\n")))
     return first_of(*wrong)
+
+
+def plain(root, program, folder):
+    """A whole search answers but for the counter; a part, whose answers are added up, does not."""
+    (folder / "counter.st").write_text(COUNTER)
+    words = "--lines", "1000000", "--worlds", "200"
+    status, text, _ = called(program, folder, "search", *words, "counter.st")
+    if status != 0 or not "".join(text.splitlines()[-1:]).startswith("never, but an overflow of n (line 4) ("):
+        return f"status {status}, {text!r}"
+    _, (status, text, _) = search(program, folder, "1/1", *words, file="counter.st")
+    last = "".join(text.splitlines()[-1:])
+    return "" if status == 7 and last.startswith("not all was seen: none up to ") and "but" not in last else f"status {status}, {last!r}"
 
 
 def wrong_words(root, program, folder):
