@@ -22,6 +22,7 @@ pub mod Footprint
 pub mod Adding
 pub mod Adjusting
 pub mod Pushing
+pub mod Truths
 pub mod Pictured
 pub mod Framed
 pub mod PicturesApart

@@ -18,7 +18,7 @@ returns-then-not-fits c = λ set w same.
     let number : FitsSigned w64 c.in-Some.number = search rules in
     let did = ap (λ (z : ℤ). spec.operated how.operator how.operator_line z (pos 1) w) old ∙ (simp to_z-of_z at (c.in-Some.ensures.some how.operator_line w)) in
     let fits : (int_le v.least c.in-Some.number && int_le c.in-Some.number v.greatest) ≡ false = search rules in
-    rw (c.charged.ensures.fault, c.charged.ensures.line) (unfit set v how.operator how.operator_line how.line w words same c.in-Some.number did fits)
+    rw (c.charged.ensures.fault, c.charged.ensures.line) (unfit set v how.operator how.operator_line how.line how.is_before w words same c.in-Some.number did fits)
 
 pub returns-in-None : goal.returns-in-None
 returns-in-None c = λ set w same.
@@ -28,5 +28,5 @@ returns-in-None c = λ set w same.
     let left : FitsSigned w64 c.word_after-old.result = search rules in
     let old : slice_index_or words (v.place + 0) (pos 0) ≡ c.word_after-old.result = search rules in
     let made = ap (λ (z : ℤ). spec.operated how.operator how.operator_line z (pos 1) w) old ∙ (simp to_z-of_z at (c.in-None.ensures.none how.operator_line w)) in
-    failed set v how.operator how.operator_line how.line w words same c.charged-in-None.result
+    failed set v how.operator how.operator_line how.line how.is_before w words same c.charged-in-None.result
     (made ∙ sym (ap (λ (x : Fault). Faults x c.charged-in-None.result.line w []) c.charged-in-None.ensures.fault ∙ ap (λ (n : ℕ). Faults fault.Overflow n w []) c.charged-in-None.ensures.line))
