@@ -1,20 +1,16 @@
 -- The lines of the transitions of a program, by its shape.
-use Rattle.std.specs.Prelude.{ℕ, List, [], ◌∷◌, Vec, map, codes}
+use Rattle.std.specs.Prelude.{ℕ, List, Vec, map}
 use Rattle.std.proofs.Common.{Global}
 use Rattle.std.specs.List.{flat_map}
+use Rattle.snl_heard.specs.Words.{go_end}
 use Rattle.snl_outline.specs.Shapes.{SetShape, Shape, StateShape, outlined}
-use Rattle.snl_output.specs.Lines.{joined, space}
 use Rattle.snl_coverage.specs.declared.charts.Chart.{Chart}
 
 -- ---- the lines of its clauses
 
--- What follows the time in the line of a transition: ` go SET FROM TO`.
-abbrev pub go_text : List ℕ → List ℕ → List ℕ → List ℕ
-go_text set from to = joined (codes " go " ∷ set ∷ space ∷ from ∷ space ∷ to ∷ [])
-
--- Those of clauses that lead to these states, in order,
+-- What follows the time in the lines of clauses that lead to these states, in order,
 abbrev pub arrow_texts : List ℕ → List ℕ → List (List ℕ) → List (List ℕ)
-arrow_texts set from targets = map (go_text set from) targets
+arrow_texts set from targets = map (go_end set from) targets
 
 -- of the clauses of a state,
 abbrev pub state_texts : List ℕ → StateShape → List (List ℕ)

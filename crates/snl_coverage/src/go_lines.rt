@@ -6,19 +6,10 @@ ghost use Rattle.snl_outline.specs.Shapes.{outlined_set, outlined_state, targets
 ghost use Rattle.snl_coverage.specs.Shapes as spec;
 
 use crate::charts::Chart;
+use snl_heard::go_end;
 use snl_names::pushed;
 use snl_outline::{ClauseOutline, SetOutline, StateOutline};
-use snl_output::push_all;
 use std::alloc::{AllocError, Global};
-
-/// What follows the time in the line of a transition, without its newline: ` go SET FROM TO`.
-fn go_text(alloc: Global, set: &[u8], from: &[u8], to: &[u8]) -> Result<Vec<u8>, AllocError>
-    ensures { IfOk result (λ text. text.items ≡ spec.go_text set.now from.now to.now) }
-{
-    let mut text = Vec::new(alloc);
-    push_all(&mut text, &[b" go ", set, b" ", from, b" ", to])?;
-    Ok(text)
-}
 
 /// Adds those of the clauses of a state.
 fn push_arrow_texts(
@@ -32,7 +23,7 @@ fn push_arrow_texts(
         ++ spec.arrow_texts set.now from.now (targets_in arrows.now)) }
 {
     for arrow in arrows {
-        let text = go_text(alloc, set, from, arrow.target.as_slice())?;
+        let text = go_end(alloc, set, from, arrow.target.as_slice())?;
         pushed(texts, text)?;
     }
     Ok(())

@@ -3,7 +3,7 @@ use Rattle.std.specs.Prelude.{◌≡◌, ℕ, true, false, List, [], ◌∷◌, 
 use Rattle.snl_heard.specs.Heard.{among, heard_of}
 use Rattle.snl_outline.specs.Names.{Names}
 use Rattle.snl_heard.specs.Printed.{run_lines, watch_lines}
-use Rattle.snl_heard.specs.Words.{has_time, kind_of, rest_of, set_of, target_of, time_of}
+use Rattle.snl_heard.specs.Words.{go_end, has_time, kind_of, rest_of, set_of, target_of, time_of}
 
 -- The words of a put and of a transition, and the time of a line: `1500` is not that of `15000`.
 pub record WordExamples : Type 0 where
@@ -12,6 +12,7 @@ pub record WordExamples : Type 0 where
   pub rest : rest_of (codes "1500 put V 1 -2") ≡ codes "V 1 -2"
   pub set : set_of (codes "1500 go guard shut open") ≡ codes "guard"
   pub target : target_of (codes "1500 go guard shut open") ≡ codes "open"
+  pub end : go_end (codes "guard") (codes "shut") (codes "open") ≡ codes " go guard shut open"
   pub same : has_time 1500 (codes "1500 put V 1") ≡ true
   pub other : has_time 1500 (codes "15000 put V 1") ≡ false
 

@@ -1,5 +1,6 @@
 -- The words of a line that a program writes: `MS put CHANNEL V ..`, `MS go SET FROM TO`, `MS start PROGRAM`.
 use Rattle.std.specs.Prelude.{◌==◌, ℕ, Bool, List, [], ◌∷◌, bytes_eq, codes, decimal, if◌then◌else◌}
+use Rattle.snl_output.specs.Lines.{joined, space}
 
 -- The bytes of a text before its first blank,
 unfoldable pub word : List ℕ → List ℕ
@@ -34,3 +35,7 @@ target_of line = word (behind (behind (rest_of line)))
 -- Whether a line has a time, in milliseconds.
 abbrev pub has_time : ℕ → List ℕ → Bool
 has_time ms line = bytes_eq (time_of line) (decimal ms)
+
+-- The end of the line of a transition, behind its time: ` go SET FROM TO`.
+abbrev pub go_end : (set from to : List ℕ) → List ℕ
+go_end set from to = joined (codes " go " ∷ set ∷ space ∷ from ∷ space ∷ to ∷ [])

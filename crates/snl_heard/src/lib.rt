@@ -1,7 +1,7 @@
 //! What a requirement hears of the lines that a program writes, and how the lines of both stand beside each other.
 //!
 //! `heard_of` makes lines of a trace of one that a program wrote; a `Page` takes the lines of the program, and those of the
-//! requirement, which stand there with `# watch ` in front.
+//! requirement, which stand there with `# watch ` in front. `go_end` is what a run writes behind the time of a transition.
 #![tactic(auto)]
 
 mod heard;
@@ -14,4 +14,4 @@ mod writing;
 pub use heard::heard_of;
 pub use page::Page;
 pub use texts::{WATCH, first_line};
-pub use words::{behind, has_time, word};
+pub use words::{behind, go_end, has_time, word};

@@ -1,10 +1,12 @@
 //! The words of a line of the output: `MS put CHANNEL V ..`, `MS go SET FROM TO`, `MS start PROGRAM`.
 
-ghost use Rattle.std.specs.Prelude.{◌≡◌, ◌≢◌, ◌++◌, ◌∷◌, All, IfNone, IfSome, bytes_eq, decimal};
+ghost use Rattle.std.specs.Prelude.{◌≡◌, ◌≢◌, ◌++◌, ◌∷◌, All, IfNone, IfOk, IfSome, bytes_eq, decimal};
 ghost use Rattle.snl_heard.specs.Words as spec;
 
 use itoa::Buffer;
 use memchr::memchr;
+use snl_output::push_all;
+use std::alloc::{AllocError, Global};
 
 /// A text cut at its first blank; None where it has none.
 fn cut_at_blank(text: &[u8]) -> Option<(&[u8], &[u8])>
@@ -42,4 +44,13 @@ pub fn has_time(line: &[u8], ms: u64) -> bool
 {
     let mut digits = Buffer::new();
     word(line) == digits.format(ms).as_bytes()
+}
+
+/// What follows the time in the line of a transition, without its newline: ` go SET FROM TO`. The only error is that memory ends.
+pub fn go_end(alloc: Global, set: &[u8], from: &[u8], to: &[u8]) -> Result<Vec<u8>, AllocError>
+    ensures { IfOk result (λ end. end.items ≡ spec.go_end set.now from.now to.now) }
+{
+    let mut end = Vec::new(alloc);
+    push_all(&mut end, &[b" go ", set, b" ", from, b" ", to])?;
+    Ok(end)
 }
