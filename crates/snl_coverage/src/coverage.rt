@@ -7,7 +7,7 @@ ghost use Rattle.snl_coverage.specs.Coverage.{both};
 use crate::charts::Chart;
 use crate::seen::Seen;
 use crate::tallies::{push_lines, push_others};
-use crate::told::{Told, told_of};
+use crate::told::{ProgramCoverage, told_of};
 use snl_tallies::Tally;
 use snl_watch::Trail;
 use std::alloc::{AllocError, Global};
@@ -72,7 +72,12 @@ impl Coverage {
     {
         let place = counts.len().saturating_sub(self.shown.len());
         let (others, lines) = counts.split_at(place);
-        let Told { trail, begun } = told_of(alloc, &self.chart, self.puts.as_slice(), others)?;
+        let ProgramCoverage { trail, begun } = told_of(
+            alloc,
+            &self.chart,
+            self.puts.as_slice(),
+            others,
+        )?;
         add_counts(&mut self.shown, lines);
         self.trail.add(&trail);
         self.begun = self.begun.saturating_add(begun);

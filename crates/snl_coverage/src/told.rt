@@ -89,7 +89,7 @@ fn put_counts(
 
 /// What became of a program, and how often it began.
 #[derive(Drop)]
-pub(crate) struct Told {
+pub(crate) struct ProgramCoverage {
     /// What became of its clauses, states and channels. In it the program never began: that the first states were entered then is
     /// among their counts.
     pub trail: Trail,
@@ -102,14 +102,14 @@ pub(crate) fn told_of(
     chart: &Chart,
     puts: &[PutChart],
     counts: &[u64],
-) -> Result<Told, AllocError> {
+) -> Result<ProgramCoverage, AllocError> {
     let mut counts = Counts {
         all: counts,
         next: 0,
     };
     let sets = set_trails(alloc, chart, &mut counts)?;
     let puts = put_counts(alloc, puts, &mut counts)?;
-    Ok(Told {
+    Ok(ProgramCoverage {
         trail: Trail::new(sets, puts),
         begun: counts.take(),
     })

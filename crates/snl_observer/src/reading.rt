@@ -12,7 +12,7 @@ use crate::logs::Log;
 use crate::programs::Program;
 use crate::standing::{Place, Standing};
 use crate::stepping::step;
-use crate::telling::{Told, summary_of};
+use crate::telling::{WatchedRun, summary_of};
 use arrayvec::ArrayVec;
 use snc::{Status, status_of};
 use snl_heard::{Page, first_line};
@@ -272,7 +272,7 @@ pub fn observe<R: Source, K: Sink + Drop>(
         trail,
         ..
     } = log;
-    let told = Told {
+    let told = WatchedRun {
         close,
         time: run.machine.time(),
         number: done_of(reading.number),

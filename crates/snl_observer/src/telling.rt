@@ -10,7 +10,7 @@ use std::alloc::{AllocError, Global};
 
 /// What is known of a run that was watched.
 #[derive(Clone, Copy)]
-pub(crate) struct Told<'t> {
+pub(crate) struct WatchedRun<'t> {
     pub(crate) close: Close,
     /// The time of the program.
     pub(crate) time: u64,
@@ -21,13 +21,18 @@ pub(crate) struct Told<'t> {
 }
 
 /// Adds at which line of the trace something was.
-fn push_line(out: &mut Vec<u8>, told: Told, front: &[u8], behind: &[u8]) -> Result<(), AllocError> {
+fn push_line(
+    out: &mut Vec<u8>,
+    told: WatchedRun,
+    front: &[u8],
+    behind: &[u8],
+) -> Result<(), AllocError> {
     push_told(out, front, told.number, b" of the trace")?;
     push_all(out, &[behind, b"\n"])
 }
 
 /// Adds how the run of the program ended.
-fn push_end(out: &mut Vec<u8>, told: Told, end: End) -> Result<(), AllocError> {
+fn push_end(out: &mut Vec<u8>, told: WatchedRun, end: End) -> Result<(), AllocError> {
     let what: &[u8] = match end {
         End::TraceEnded => b"# end of the trace at ",
         End::ProgramEnded => b"# the program ended at ",
@@ -59,7 +64,12 @@ fn push_last(out: &mut Vec<u8>, trail: &Trail) -> Result<(), AllocError> {
 }
 
 /// Adds that a state came to be that must not.
-fn push_never(out: &mut Vec<u8>, told: Told, set: &SetOutline, at: At) -> Result<(), AllocError> {
+fn push_never(
+    out: &mut Vec<u8>,
+    told: WatchedRun,
+    set: &SetOutline,
+    at: At,
+) -> Result<(), AllocError> {
     let name = match set.states.get(at.state) {
         Some(state) => state.name.as_slice(),
         None => b"",
@@ -77,7 +87,7 @@ fn push_never(out: &mut Vec<u8>, told: Told, set: &SetOutline, at: At) -> Result
 }
 
 /// Adds which of the states that must not be came to be.
-fn push_hit(out: &mut Vec<u8>, told: Told, never: usize) -> Result<(), AllocError> {
+fn push_hit(out: &mut Vec<u8>, told: WatchedRun, never: usize) -> Result<(), AllocError> {
     let Some(place) = told.standing.place(never) else {
         return Ok(());
     };
@@ -94,7 +104,7 @@ fn push_hit(out: &mut Vec<u8>, told: Told, never: usize) -> Result<(), AllocErro
 fn push_mistake(
     alloc: Global,
     out: &mut Vec<u8>,
-    told: Told,
+    told: WatchedRun,
     end: Ending,
 ) -> Result<(), AllocError> {
     match end {
@@ -163,7 +173,7 @@ fn push_standing(out: &mut Vec<u8>, standing: &Standing) -> Result<(), AllocErro
 
 /// What is told of a run that was watched, as lines that begin with `#`; where memory ended, nothing. The only error is that memory ends,
 /// or was refused for one of its last lines.
-pub(crate) fn summary_of(alloc: Global, told: Told) -> Result<Vec<u8>, AllocError> {
+pub(crate) fn summary_of(alloc: Global, told: WatchedRun) -> Result<Vec<u8>, AllocError> {
     if told.trail.ran_out() {
         return Err(AllocError);
     }

@@ -145,7 +145,7 @@ fn finished<K: Sink, W: Sink>(folder: &mut Folder<'_, K, W>, end: End, summary: 
 
 /// What was told of a run.
 #[derive(Drop)]
-struct Told<R, K> {
+struct RunReport<R, K> {
     end: End,
     /// Whether all was written, with the summary.
     is_whole: bool,
@@ -187,7 +187,7 @@ fn whole_of<R: Source + Drop, K: Sink + Drop>(
     stage: &mut Stage,
     trace: R,
     sink: K,
-) -> Result<Told<R, K>, AllocError>
+) -> Result<RunReport<R, K>, AllocError>
     requires trace { R.failures trace < 2 ^ 64 - 1 }
     requires fresh_trace { R.gave trace ≡ [] }
     requires sink { K.failures sink < 2 ^ 64 - 1 }
@@ -221,7 +221,7 @@ fn whole_of<R: Source + Drop, K: Sink + Drop>(
     if !is_faithful {
         return Err(AllocError);
     }
-    Ok(Told {
+    Ok(RunReport {
         end,
         is_whole,
         trace,
@@ -237,7 +237,7 @@ fn folded_of<R: Source + Drop, K: Sink + Drop, W: Sink + Drop>(
     trace: R,
     sink: K,
     witness: W,
-) -> Result<Told<R, (K, W)>, AllocError>
+) -> Result<RunReport<R, (K, W)>, AllocError>
     requires trace { R.failures trace < 2 ^ 64 - 1 }
     requires fresh_trace { R.gave trace ≡ [] }
     requires sinks { K.failures sink + W.failures witness < 2 ^ 64 - 1 }
@@ -278,7 +278,7 @@ fn folded_of<R: Source + Drop, K: Sink + Drop, W: Sink + Drop>(
     if !is_faithful {
         return Err(AllocError);
     }
-    Ok(Told {
+    Ok(RunReport {
         end,
         is_whole,
         trace,

@@ -1,6 +1,6 @@
 //! What a trace tells, line by line, while it goes to a run: its events, and the names that the program does not have.
 
-use crate::lines::{Told, ms_of, word_of};
+use crate::lines::{ChannelEvent, ms_of, word_of};
 use crate::zero::Zero;
 use bstr::ByteSlice;
 use indexmap::{IndexMap, IndexSet};
@@ -118,7 +118,7 @@ impl HeardTrace {
     }
 
     /// Hears what a line tells of a name.
-    fn note_name(&mut self, told: Told, ms: u64, name: &[u8]) {
+    fn note_name(&mut self, told: ChannelEvent, ms: u64, name: &[u8]) {
         match self.channels.get_index_of(name) {
             Some(number) => self.note_channel(told, ms, number),
             None => self.note_other(name),
@@ -126,22 +126,22 @@ impl HeardTrace {
     }
 
     /// Hears what a line tells of a channel of the program.
-    fn note_channel(&mut self, told: Told, ms: u64, number: usize) {
+    fn note_channel(&mut self, told: ChannelEvent, ms: u64, number: usize) {
         if let Some(channel) = self.states.get_mut(number) {
             self.last = Some(Renamed {
                 number,
                 before: *channel,
             });
             match told {
-                Told::Up => {
+                ChannelEvent::Up => {
                     channel.is_up = true;
                     channel.down_since = None;
                 }
-                Told::Down if channel.is_up => {
+                ChannelEvent::Down if channel.is_up => {
                     channel.is_up = false;
                     channel.down_since = Some(ms);
                 }
-                Told::Down | Told::Else => {}
+                ChannelEvent::Down | ChannelEvent::Else => {}
             }
         }
     }

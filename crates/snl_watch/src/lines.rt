@@ -7,7 +7,7 @@ pub fn line_number(number: u128) -> u64 {
 
 /// What a line tells of its channel.
 #[derive(Clone, Copy, Debug, PartialEq, Eq)]
-pub(crate) enum Told {
+pub(crate) enum ChannelEvent {
     Up,
     Down,
     /// Values, or answers to puts.
@@ -15,11 +15,11 @@ pub(crate) enum Told {
 }
 
 /// What the word of a line tells of the channel behind it; None where none stands there.
-pub(crate) fn word_of(field: &[u8]) -> Option<Told> {
+pub(crate) fn word_of(field: &[u8]) -> Option<ChannelEvent> {
     match field {
-        b"up" => Some(Told::Up),
-        b"down" => Some(Told::Down),
-        b"val" | b"done" => Some(Told::Else),
+        b"up" => Some(ChannelEvent::Up),
+        b"down" => Some(ChannelEvent::Down),
+        b"val" | b"done" => Some(ChannelEvent::Else),
         _ => None,
     }
 }
