@@ -2,7 +2,7 @@
 
 ghost use Rattle.std.specs.Prelude.{◌≡◌, []};
 
-use crate::scenes::Scene;
+use crate::scenes::RunProgress;
 use snl_output::{Fired, Put, Sink, SinkFault, Went};
 use std::alloc::Global;
 
@@ -12,12 +12,12 @@ pub struct Page {
     text: Vec<u8>,
     failures: u64,
     /// What is told of the run.
-    pub(crate) scene: Scene,
+    pub(crate) scene: RunProgress,
 }
 
 impl Page {
     /// An empty one.
-    pub(crate) fn new(alloc: Global, scene: Scene) -> Self {
+    pub(crate) fn new(alloc: Global, scene: RunProgress) -> Self {
         Page {
             text: Vec::new(alloc),
             failures: 0,

@@ -15,7 +15,7 @@ ghost use Rattle.snc.specs.Runs.{EndsAt, RunsLike, RunsWith, trace_failures};
 use crate::staging::{Stage, Staging};
 use crate::starting::names_of;
 use crate::summaries::summary_of;
-use crate::telling::Scene;
+use crate::telling::ProgramView;
 use crate::units::units_of;
 use snc::{Answered, Status, answer, status_of};
 use snc_args::Job;
@@ -171,8 +171,8 @@ fn notes_of<'c>(
 }
 
 /// What is known of a program that is staged, and of its run.
-fn scene_of<'s>(source: &'s [u8], stage: &'s Stage) -> Scene<'s> {
-    Scene {
+fn scene_of<'s>(source: &'s [u8], stage: &'s Stage) -> ProgramView<'s> {
+    ProgramView {
         source,
         links: stage.prepared.links.as_slice(),
         machine: &stage.prepared.machine,

@@ -3,7 +3,7 @@
 use crate::awaited::awaited_of;
 use crate::bad_lines::without_bad_line;
 use crate::starting::Start;
-use crate::telling::{Scene, start_text};
+use crate::telling::{ProgramView, start_text};
 use snl_output::{push_all, push_counted, push_told};
 use snl_trace::End;
 use snl_watch::{HeardTrace, Notes, Standing, Zero, line_number};
@@ -105,7 +105,7 @@ fn push_since(out: &mut Vec<u8>, since: Time, number: u64, count: u64) -> Result
 fn push_waits(
     alloc: Global,
     out: &mut Vec<u8>,
-    scene: Scene,
+    scene: ProgramView,
     end: End,
     heard: HeardTrace,
 ) -> Result<(), AllocError> {
@@ -142,7 +142,7 @@ fn push_counts(out: &mut Vec<u8>, standing: &Standing, end: End) -> Result<(), A
 /// Adds how a run ended, and where.
 fn push_ending(
     out: &mut Vec<u8>,
-    scene: Scene,
+    scene: ProgramView,
     end: End,
     zero: Zero,
     notes: &Notes,
@@ -155,7 +155,7 @@ fn push_ending(
 fn push_standing(
     alloc: Global,
     out: &mut Vec<u8>,
-    scene: Scene,
+    scene: ProgramView,
     end: End,
     heard: HeardTrace,
     notes: &Notes,
@@ -172,7 +172,7 @@ fn push_standing(
 /// The summary of a run, each line with `# ` in front. Fails only where memory ran out.
 pub(crate) fn summary_of(
     alloc: Global,
-    scene: Scene,
+    scene: ProgramView,
     end: End,
     heard: HeardTrace,
     notes: &Notes,

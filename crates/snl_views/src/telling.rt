@@ -17,7 +17,7 @@ const PAIRS_COMPARED: usize = 200_000;
 
 /// What is known of a program and of its run, beside what it waits for.
 #[derive(Clone, Copy)]
-pub(crate) struct Scene<'s> {
+pub(crate) struct ProgramView<'s> {
     /// The text of the program.
     pub source: &'s [u8],
     pub links: &'s [Link],
@@ -27,7 +27,7 @@ pub(crate) struct Scene<'s> {
 }
 
 /// Adds when the program began.
-fn push_began(out: &mut Vec<u8>, scene: Scene, heard: &HeardTrace) -> Result<(), AllocError> {
+fn push_began(out: &mut Vec<u8>, scene: ProgramView, heard: &HeardTrace) -> Result<(), AllocError> {
     out.extend_from_slice(b"began at ")?;
     push_time(out, heard, scene.machine.time())?;
     let why: &[u8] = if scene.waits {
@@ -62,7 +62,7 @@ fn push_events(out: &mut Vec<u8>, heard: &HeardTrace, time: u64) -> Result<(), A
 }
 
 /// Adds the variable of a link, in brackets, and ends the line.
-fn push_variable(out: &mut Vec<u8>, scene: Scene, link: &Link) -> Result<(), AllocError> {
+fn push_variable(out: &mut Vec<u8>, scene: ProgramView, link: &Link) -> Result<(), AllocError> {
     let variable = variable_of(scene.source, scene.links, link);
     push_all(out, &[b" (", variable.name])?;
     if let Some(element) = variable.element {
@@ -85,7 +85,7 @@ fn push_down(out: &mut Vec<u8>, heard: &HeardTrace, since: Option<u64>) -> Resul
 /// Adds what the program waits for at a link.
 fn push_awaited(
     out: &mut Vec<u8>,
-    scene: Scene,
+    scene: ProgramView,
     heard: &HeardTrace,
     awaited: Awaited,
 ) -> Result<(), AllocError> {
@@ -106,7 +106,7 @@ fn push_awaited(
 }
 
 /// Since when the channel of a link is down again, in milliseconds.
-fn since_of(scene: Scene, heard: &HeardTrace, number: usize) -> Option<u64> {
+fn since_of(scene: ProgramView, heard: &HeardTrace, number: usize) -> Option<u64> {
     let channel = scene.machine.link(number)?.channel?;
     heard.down_since(channel)
 }
@@ -163,7 +163,7 @@ fn push_others(
 /// the trace it does not have. Fails only where memory ran out.
 pub(crate) fn start_text(
     alloc: Global,
-    scene: Scene,
+    scene: ProgramView,
     start: &Start,
 ) -> Result<Vec<u8>, AllocError> {
     let mut out = Vec::new(alloc);

@@ -18,7 +18,7 @@ ghost use Rattle.snc.specs.Runs.{RunsLike, trace_failures};
 use crate::awaited::Awaited;
 use crate::preparing::{Prepared, Preparing};
 use crate::starting::start_of;
-use crate::telling::{Scene, start_text};
+use crate::telling::{ProgramView, start_text};
 use snc::{Answered, Status, answer};
 use snc_args::Job;
 use snl_trace::{End, Source};
@@ -69,7 +69,7 @@ fn outcome_of<R: Source + Drop>(
         ≡ counted (source_failed r.0.end) (R.failures trace)) }
 {
     let (start, trace) = start_of(alloc, &mut prepared.machine, prepared.waits, trace)?;
-    let scene = Scene {
+    let scene = ProgramView {
         source,
         links: prepared.links.as_slice(),
         machine: &prepared.machine,
