@@ -10,7 +10,7 @@ use snc::{Answered, Status};
 use snc_args::Job;
 use snc_cli::{Lines, Outlet, source_in, tell, write};
 use snl_args::Call;
-use snl_observer::{Observed, Place, Program, observe, program_of};
+use snl_observer::{ForbiddenState, Observed, Program, observe, program_of};
 use std::alloc::AllocError;
 
 /// What came of both sources.
@@ -73,7 +73,7 @@ pub fn places_of(
     job: &Job,
     never: &[String],
     watch: &Program,
-) -> Result<Vec<Place>, Status> {
+) -> Result<Vec<ForbiddenState>, Status> {
     let mut places = Vec::new(rt.alloc());
     for name in never {
         let place = place_of(watch, name.as_str());
@@ -92,7 +92,7 @@ pub fn places_of(
 }
 
 /// The state that a word names, if there is one.
-fn place_of(watch: &Program, name: &str) -> Option<Place> {
+fn place_of(watch: &Program, name: &str) -> Option<ForbiddenState> {
     let (set, state) = name.split_once('.')?;
     watch.place(set.as_bytes(), state.as_bytes())
 }
@@ -123,7 +123,7 @@ fn observed<'c>(
     asked: Asked<'c>,
     run: &mut Program,
     watch: &mut Program,
-    places: Vec<Place>,
+    places: Vec<ForbiddenState>,
 ) -> Result<Status, Status> {
     let Ok(lines) = Lines::new(rt.alloc(), Outlet::new(rt.stdout())) else {
         return Err(Status::Memory);

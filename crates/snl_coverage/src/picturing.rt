@@ -17,7 +17,7 @@ use std::alloc::{AllocError, Global};
 /// A place in a program: the numbers of a state set and of a state of it, and the number of the state's first clause among all
 /// clauses of the program.
 #[derive(Clone, Copy)]
-struct Place {
+struct StateNumbers {
     set: usize,
     state: usize,
     first: usize,
@@ -57,7 +57,7 @@ fn arrow_of(
     alloc: Global,
     chart: &ClauseOutline,
     beside: Beside,
-    place: Place,
+    place: StateNumbers,
     clause: usize,
 ) -> Result<Arrow, AllocError>
     ensures { IfOk result (λ arrow. arrow.target.items ≡ chart.now.target.items) }
@@ -83,7 +83,7 @@ fn arrows_of(
     alloc: Global,
     charts: &[ClauseOutline],
     beside: Beside,
-    place: Place,
+    place: StateNumbers,
 ) -> Result<Vec<Arrow>, AllocError>
     ensures { IfOk result (λ arrows. pictured_arrows arrows.items ≡ targets_in charts.now) }
 {
@@ -100,7 +100,7 @@ fn node_of(
     alloc: Global,
     chart: &StateOutline,
     beside: Beside,
-    place: Place,
+    place: StateNumbers,
 ) -> Result<Node, AllocError>
     ensures { IfOk result (λ node. pictured_state node ≡ outlined_state chart.now) }
 {
@@ -122,7 +122,7 @@ fn nodes_of(
 {
     let mut nodes = Vec::new(alloc);
     for (state, chart) in charts.iter().enumerate() {
-        let place = Place {
+        let place = StateNumbers {
             set,
             state,
             first: *next,

@@ -37,7 +37,7 @@ fn push_tally(
 
 /// A state, by the numbers of its state set and its own, with the name of the state set.
 #[derive(Clone, Copy)]
-struct Place<'c> {
+struct NamedState<'c> {
     set: usize,
     state: usize,
     name: &'c [u8],
@@ -64,7 +64,7 @@ fn taken_ending(alloc: Global, chart: &StateOutline, clause: usize) -> Result<Ve
 fn push_taken(
     alloc: Global,
     coverage: &Coverage,
-    place: Place,
+    place: NamedState,
     chart: &StateOutline,
     clause: usize,
     tallies: &mut Vec<Tally>,
@@ -84,7 +84,7 @@ fn push_taken(
 fn push_left(
     alloc: Global,
     coverage: &Coverage,
-    place: Place,
+    place: NamedState,
     chart: &StateOutline,
     clause: usize,
     tallies: &mut Vec<Tally>,
@@ -104,7 +104,7 @@ fn push_left(
 fn push_state(
     alloc: Global,
     coverage: &Coverage,
-    place: Place,
+    place: NamedState,
     chart: &StateOutline,
     tallies: &mut Vec<Tally>,
 ) -> Result<(), AllocError> {
@@ -132,7 +132,7 @@ fn push_set(
     tallies: &mut Vec<Tally>,
 ) -> Result<(), AllocError> {
     for (state, one) in chart.states.iter().enumerate() {
-        let place = Place {
+        let place = NamedState {
             set,
             state,
             name: chart.name.as_slice(),

@@ -27,4 +27,4 @@ pub use loading::program_of;
 pub use pages::Held;
 pub use programs::Program;
 pub use reading::{Observed, observe};
-pub use standing::Place;
+pub use standing::ForbiddenState;

@@ -7,7 +7,7 @@ ghost use Rattle.snl_meaning.specs.World.{World};
 ghost use Rattle.snl_observer.specs.Lasting.{lasting_of};
 
 use crate::pages::Held;
-use crate::standing::{Place, place_named};
+use crate::standing::{ForbiddenState, place_named};
 use snl_machine::{Machine, Snapshot};
 use snl_outline::SetOutline;
 use snl_trace::Events;
@@ -55,7 +55,7 @@ impl Program {
     }
 
     /// The state of a name, in the state set of a name; None where there is no such.
-    pub fn place(&self, set: &[u8], state: &[u8]) -> Option<Place> {
+    pub fn place(&self, set: &[u8], state: &[u8]) -> Option<ForbiddenState> {
         place_named(self.sets.as_slice(), set, state)
     }
 }

@@ -10,7 +10,7 @@ ghost use Rattle.snl_trace.specs.Run.{Rules};
 use crate::closes::Close;
 use crate::logs::Log;
 use crate::programs::Program;
-use crate::standing::{Place, Standing};
+use crate::standing::{ForbiddenState, Standing};
 use crate::stepping::step;
 use crate::telling::{WatchedRun, summary_of};
 use arrayvec::ArrayVec;
@@ -216,7 +216,7 @@ fn done_of(number: u128) -> u64 {
 fn log_of<K: Sink + Drop>(
     alloc: Global,
     watch: &mut Program,
-    never: Vec<Place>,
+    never: Vec<ForbiddenState>,
     sink: K,
 ) -> Result<Log<K>, AllocError>
     requires fresh { (text : List ℕ) → K.told sink ≡ Some text → text ≡ [] }
@@ -246,7 +246,7 @@ pub fn observe<R: Source, K: Sink + Drop>(
     alloc: Global,
     run: &mut Program,
     watch: &mut Program,
-    never: Vec<Place>,
+    never: Vec<ForbiddenState>,
     trace: &mut R,
     sink: K,
 ) -> Result<Observed<K>, AllocError>

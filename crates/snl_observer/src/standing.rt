@@ -6,7 +6,7 @@ use std::alloc::{AllocError, Global};
 
 /// A state that must not be: the numbers of its state set and of the state.
 #[derive(Clone, Copy, Debug, PartialEq, Eq)]
-pub struct Place {
+pub struct ForbiddenState {
     /// The number of the state set, from 0 on, in the order of the source.
     pub set: usize,
     /// The number of the state in its state set, from 0 on.
@@ -36,7 +36,7 @@ pub(crate) struct Standing {
     has_begun: bool,
     has_ended: bool,
     /// What must not be.
-    never: Vec<Place>,
+    never: Vec<ForbiddenState>,
     /// The number of the first of these that came to be, and when.
     hit: Option<Hit>,
 }
@@ -69,10 +69,14 @@ fn state_named(set: &SetOutline, name: &[u8]) -> Option<usize> {
 }
 
 /// The state of a state set, by their names; None where there is no such.
-pub(crate) fn place_named(names: &[SetOutline], set: &[u8], state: &[u8]) -> Option<Place> {
+pub(crate) fn place_named(
+    names: &[SetOutline],
+    set: &[u8],
+    state: &[u8],
+) -> Option<ForbiddenState> {
     let number = set_named(names, set)?;
     let state = state_named(names.get(number)?, state)?;
-    Some(Place { set: number, state })
+    Some(ForbiddenState { set: number, state })
 }
 
 impl Standing {
@@ -80,7 +84,7 @@ impl Standing {
     pub(crate) fn new(
         alloc: Global,
         names: Vec<SetOutline>,
-        never: Vec<Place>,
+        never: Vec<ForbiddenState>,
     ) -> Result<Self, AllocError> {
         let at = vec![in alloc; At { state: 0, since: 0 }; names.len()]?;
         Ok(Standing {
@@ -110,7 +114,7 @@ impl Standing {
     }
 
     /// The place of a number among those that must not be.
-    pub(crate) fn place(&self, never: usize) -> Option<Place> {
+    pub(crate) fn place(&self, never: usize) -> Option<ForbiddenState> {
         self.never.get(never).copied()
     }
 
@@ -130,7 +134,7 @@ impl Standing {
     }
 
     /// A state set comes into a state.
-    fn enter(&mut self, place: Place, ms: u64) {
+    fn enter(&mut self, place: ForbiddenState, ms: u64) {
         if let Some(at) = self.at.get_mut(place.set) {
             *at = At {
                 state: place.state,
@@ -149,7 +153,7 @@ impl Standing {
     fn begin(&mut self, ms: u64) {
         self.has_begun = true;
         for set in 0..self.names.len() {
-            self.enter(Place { set, state: 0 }, ms);
+            self.enter(ForbiddenState { set, state: 0 }, ms);
         }
     }
 

@@ -10,7 +10,7 @@ use snl_cli::{Asked, WatchPair, check_both, job_of_file, places_of, watch_pair_o
 use snl_equivalence::PairWishes;
 use snl_guards::{Crew, Hears, Watched, WatchedAnswer, WatchedQuestion, heard_by, search_watched};
 use snl_machine::Machine;
-use snl_observer::{Place, Program, program_of};
+use snl_observer::{ForbiddenState, Program, program_of};
 use snl_safety::Forbidden;
 use snl_wishes::{Clock, recorded, told_fault, wished_values};
 use std::alloc::{AllocError, Global};
@@ -33,7 +33,7 @@ struct Guard<'g> {
 /// What must not be, by numbers and by names.
 #[derive(Drop)]
 struct Never {
-    places: Vec<Place>,
+    places: Vec<ForbiddenState>,
     names: Vec<Forbidden>,
 }
 

@@ -9,7 +9,7 @@ use snl_args::Call;
 use snl_cli::{
     Folder, Halt, Verdict, job_of, path_in, program_source, small_text, wrong, wrong_bytes,
 };
-use snl_observer::{Close, Observed, Place, Program as Watcher, observe, program_of};
+use snl_observer::{Close, ForbiddenState, Observed, Program as Watcher, observe, program_of};
 use snl_suite::{Day, Program, push_visible, states_in};
 use snl_trace::{End, Source};
 use snl_trials::Nothing;
@@ -97,13 +97,18 @@ fn check_pair(alloc: Global, run: &Watcher, watch: &Watcher) -> Result<(), Halt>
 }
 
 /// The state that a word names, if there is one.
-fn place_of(watch: &Watcher, name: &str) -> Option<Place> {
+fn place_of(watch: &Watcher, name: &str) -> Option<ForbiddenState> {
     let (set, state) = name.split_once('.')?;
     watch.place(set.as_bytes(), state.as_bytes())
 }
 
 /// The states that must not be.
-fn places_in(alloc: Global, name: &str, text: &str, watch: &Watcher) -> Result<Vec<Place>, Halt> {
+fn places_in(
+    alloc: Global,
+    name: &str,
+    text: &str,
+    watch: &Watcher,
+) -> Result<Vec<ForbiddenState>, Halt> {
     let mut places = Vec::new(alloc);
     for state in states_in(alloc, text)? {
         match place_of(watch, state) {
@@ -124,7 +129,7 @@ fn observed_over<R: Source>(
     alloc: Global,
     run: &mut Watcher,
     watch: &mut Watcher,
-    places: Vec<Place>,
+    places: Vec<ForbiddenState>,
     trace: &mut R,
 ) -> Result<Observed<Nowhere>, AllocError>
     requires trace { R.failures trace.old < 2 ^ 64 - 1 }
@@ -140,7 +145,7 @@ fn observed_day(
     day: &Day,
     run: &mut Watcher,
     watch: &mut Watcher,
-    places: Vec<Place>,
+    places: Vec<ForbiddenState>,
 ) -> Result<Observed<Nowhere>, Halt> {
     if !day.has_trace {
         let alloc = rt.alloc();
