@@ -61,7 +61,7 @@ pub type LogFeed<'t> = Feed<BufReader<LogFile<'t>>>;
 
 /// A file that has one channel behind the other.
 #[derive(Drop)]
-pub struct Held {
+pub struct ExportLog {
     text: Vec<u8>,
     /// Where its parts begin: the byte, and how many lines stand in front.
     parts: Vec<(usize, u64)>,
@@ -159,17 +159,17 @@ fn parts_of(alloc: Global, text: &[u8]) -> Result<Vec<(usize, u64)>, AllocError>
 }
 
 /// What is held of a file that has one channel behind the other.
-fn held_of(rt: &HostRuntime, file: &str) -> io::Result<Option<Held>> {
+fn held_of(rt: &HostRuntime, file: &str) -> io::Result<Option<ExportLog>> {
     if !has_channels(rt, file)? {
         return Ok(None);
     }
     let text = text_of(rt, file)?;
     let parts = parts_of(rt.alloc(), text.as_slice())?;
-    Ok(Some(Held { text, parts }))
+    Ok(Some(ExportLog { text, parts }))
 }
 
 /// What is held of the logs of a call, by their places; nothing of those that are read as they come.
-pub fn held_logs(rt: &HostRuntime, words: &TraceWords) -> Result<Vec<Option<Held>>, Status> {
+pub fn held_logs(rt: &HostRuntime, words: &TraceWords) -> Result<Vec<Option<ExportLog>>, Status> {
     let mut all = Vec::new(rt.alloc());
     for file in &words.logs {
         let held = if is_plain(rt, file.as_str()) {
@@ -232,7 +232,7 @@ fn push_parts<'t>(
     alloc: Global,
     words: &TraceWords,
     file: &str,
-    held: &'t Held,
+    held: &'t ExportLog,
     feeds: &mut Vec<LogFeed<'t>>,
 ) -> Result<(), Status> {
     for (place, part) in held.parts.iter().enumerate() {
@@ -265,7 +265,7 @@ fn push_log<'t>(
 pub fn feeds_of<'t>(
     rt: &HostRuntime,
     words: &TraceWords,
-    logs: &'t [Option<Held>],
+    logs: &'t [Option<ExportLog>],
 ) -> Result<Vec<LogFeed<'t>>, Status> {
     let mut feeds = Vec::new(rt.alloc());
     for (place, file) in words.logs.iter().enumerate() {

@@ -24,7 +24,7 @@ pub use closes::{Close, Ending};
 pub use doing::{Done, line_done};
 pub use lines::{LineHeard, line_heard};
 pub use loading::program_of;
-pub use pages::Held;
+pub use pages::TextSink;
 pub use programs::Program;
 pub use reading::{Observed, observe};
 pub use standing::ForbiddenState;

@@ -7,15 +7,15 @@ use std::alloc::Global;
 
 /// Keeps what it is given. It fails where memory ends.
 #[derive(Drop)]
-pub struct Held {
+pub struct TextSink {
     text: Vec<u8>,
     failures: u64,
 }
 
-impl Held {
+impl TextSink {
     /// An empty one.
     pub(crate) fn new(alloc: Global) -> Self {
-        Held {
+        TextSink {
             text: Vec::new(alloc),
             failures: 0,
         }
@@ -38,7 +38,7 @@ impl Held {
     }
 }
 
-impl Sink for Held {
+impl Sink for TextSink {
     ghost use Rattle.std.specs.Prelude.{Some};
 
     ghost told = { λ page. Some page.text.items };

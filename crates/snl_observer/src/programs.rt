@@ -6,7 +6,7 @@ ghost use Rattle.snl_machine.specs.Snapshots.{Pictures, lasting_frame};
 ghost use Rattle.snl_meaning.specs.World.{World};
 ghost use Rattle.snl_observer.specs.Lasting.{lasting_of};
 
-use crate::pages::Held;
+use crate::pages::TextSink;
 use crate::standing::{ForbiddenState, place_named};
 use snl_machine::{Machine, Snapshot};
 use snl_outline::SetOutline;
@@ -18,7 +18,7 @@ pub struct Program {
     /// Its machine.
     pub machine: Machine,
     /// What the last line made it write.
-    pub page: Held,
+    pub page: TextSink,
     /// Room for what it hears.
     pub(crate) events: Events,
     /// The names of its states.

@@ -5,7 +5,7 @@ ghost use Rattle.std.proofs.Props.{props};
 ghost use Rattle.snl_output.specs.Devices.{counted};
 ghost use Rattle.snl_watch.specs.Window.{window};
 
-use crate::held::Held;
+use crate::held::InputBuffer;
 use crate::line_ends::front_line;
 use snl_output::{Source, SourceFault};
 use snl_past::Past;
@@ -19,7 +19,7 @@ use std::alloc::{AllocError, Global};
 #[derive(Drop)]
 pub struct ByLine<R: Source> {
     inner: R,
-    held: Held,
+    held: InputBuffer,
     /// Whether the source has come to its end.
     ended: bool,
     /// Whether it said last that no more come.
@@ -45,7 +45,7 @@ impl<R: Source> ByLine<R> {
         ensures past { IfOk result (λ lines. lines.past.bytes ≡ []) }
     {
         Ok(ByLine {
-            held: Held::new(alloc)?,
+            held: InputBuffer::new(alloc)?,
             inner,
             ended: false,
             said: false,

@@ -11,7 +11,7 @@ const ROOM: usize = 65_536;
 
 /// Bytes that came and were not given on, in room of a fixed size.
 #[derive(Drop)]
-pub(crate) struct Held {
+pub(crate) struct InputBuffer {
     bytes: Vec<u8>,
     /// Where those begin and end that were not given on.
     from: usize,
@@ -36,7 +36,7 @@ fn last_end(text: &[u8]) -> usize
     }
 }
 
-impl Held {
+impl InputBuffer {
     ghost use Rattle.snl_watch.specs.Window.{window};
     ghost use Rattle.snl_output.specs.Devices.{counted};
 
@@ -44,7 +44,7 @@ impl Held {
     pub(crate) fn new(alloc: Global) -> Result<Self, AllocError>
         ensures { IfOk result (λ held. window held ≡ []) }
     {
-        Ok(Held {
+        Ok(InputBuffer {
             bytes: vec![in alloc; 0u8; ROOM]?,
             from: 0,
             to: 0,

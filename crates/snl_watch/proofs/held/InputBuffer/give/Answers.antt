@@ -1,7 +1,7 @@
 use Rattle.std.proofs.Common.{arith, slice_range, ◌+◌, ◌∙◌, ap}
 use Rattle.std.proofs.lemmas.List.{length-take-le}
 use Rattle.snl_watch.proofs.Windows.{given-rest}
-use Rattle.snl_watch.proofs.held.Held.give.Goals as goal
+use Rattle.snl_watch.proofs.held.InputBuffer.give.Goals as goal
 
 pub returns-clause-given : goal.returns-clause-given
 returns-clause-given c =

@@ -2,7 +2,7 @@ use Rattle.std.proofs.Common.{◌≡◌, ◌≤◌, ◌∙◌, ◌++◌, ◌+◌
 use Rattle.std.proofs.lemmas.List.{length-take-le, with_items_is}
 use Rattle.snl_watch.specs.Window.{window}
 use Rattle.snl_watch.proofs.Windows.{as-long, held-more, held-stays}
-use Rattle.snl_watch.proofs.held.Held.take_from.Goals as goal
+use Rattle.snl_watch.proofs.held.InputBuffer.take_from.Goals as goal
 
 pub returns-in_err-count-clause-gave : goal.returns-in_err-count-clause-gave
 returns-in_err-count-clause-gave g c =

@@ -1,6 +1,6 @@
 use Rattle.std.proofs.lemmas.Bool.{ltb-false}
 use Rattle.snl_watch.proofs.Windows.{none-behind}
-use Rattle.snl_watch.proofs.held.Held.has_line.Goals as goal
+use Rattle.snl_watch.proofs.held.InputBuffer.has_line.Goals as goal
 
 pub returns-else-len-eq-ROOM-clause-rest : goal.returns-else-len-eq-ROOM-clause-rest
 returns-else-len-eq-ROOM-clause-rest c isnt =
