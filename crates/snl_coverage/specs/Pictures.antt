@@ -6,7 +6,7 @@ use Rattle.snl_output.specs.Lines.{joined}
 use Rattle.snl_outline.specs.Shapes.{SetShape, Shape, StateShape}
 use Rattle.snl_coverage.specs.declared.pictures.Arrow.{Arrow}
 use Rattle.snl_coverage.specs.declared.pictures.Cluster.{Cluster}
-use Rattle.snl_coverage.specs.declared.pictures.Node.{Node}
+use Rattle.snl_coverage.specs.declared.pictures.StateNode.{StateNode}
 use Rattle.snl_coverage.specs.declared.pictures.Picture.{Picture}
 
 -- ---- what it shows
@@ -16,7 +16,7 @@ abbrev pub pictured_arrows : List Arrow → List (List ℕ)
 pictured_arrows arrows = map (λ a. a.target.items) arrows
 
 -- and the shape that a picture shows, of a state,
-abbrev pub pictured_state : Node → StateShape
+abbrev pub pictured_state : StateNode → StateShape
 pictured_state n = record { name = n.name.items; targets = pictured_arrows n.arrows.items }
 
 -- of a state set,
@@ -54,7 +54,7 @@ abbrev pub arrow_lines : List ℕ → List ℕ → Arrow → List ℕ
 arrow_lines set from a = way_out set a.target.items ++ arrow_line set from a
 
 -- Those from a state: one arrow for each of its clauses, in order.
-abbrev pub arrows_from : List ℕ → Node → List ℕ
+abbrev pub arrows_from : List ℕ → StateNode → List ℕ
 arrows_from set n = flat_map (arrow_lines set n.name.items) n.arrows.items
 
 -- How the line of a state ends: the initial one has a thick border.
@@ -66,7 +66,7 @@ abbrev pub node_line : List ℕ → List ℕ → Bool → List ℕ
 node_line set name is_first = joined (codes "    \"" ∷ set ∷ codes "." ∷ name ∷ codes "\" [label=\"" ∷ name ∷ []) ++ node_end is_first
 
 -- Those of states after the first k.
-abbrev pub node_lines : List ℕ → ℕ → List Node → List ℕ
+abbrev pub node_lines : List ℕ → ℕ → List StateNode → List ℕ
 node_lines set k [] = []
 node_lines set k (n ∷ ns) = node_line set n.name.items (k == 0) ++ node_lines set (suc k) ns
 

@@ -4,7 +4,7 @@ ghost use Rattle.std.specs.Prelude.{◌≡◌, ◌==◌, ◌++◌, map, codes, O
 ghost use Rattle.std.specs.List.{flat_map};
 ghost use Rattle.snl_coverage.specs.Pictures as spec;
 
-use crate::pictures::{Arrow, Cluster, Node, Picture};
+use crate::pictures::{Arrow, Cluster, Picture, StateNode};
 use snl_output::push_all;
 use std::alloc::{AllocError, Global};
 
@@ -131,7 +131,7 @@ fn push_node<'t>(
 }
 
 /// Adds the states of a state set.
-fn push_nodes(out: &mut Vec<u8>, set: &[u8], nodes: &[Node]) -> Result<(), AllocError>
+fn push_nodes(out: &mut Vec<u8>, set: &[u8], nodes: &[StateNode]) -> Result<(), AllocError>
     ensures { OnOk result (out.new.items ≡ out.old.items ++ spec.node_lines set.now 0 nodes.now) }
 {
     for (index, node) in nodes.iter().enumerate() {
@@ -141,7 +141,7 @@ fn push_nodes(out: &mut Vec<u8>, set: &[u8], nodes: &[Node]) -> Result<(), Alloc
 }
 
 /// Adds the arrows from the states of a state set.
-fn push_all_arrows(out: &mut Vec<u8>, set: &[u8], nodes: &[Node]) -> Result<(), AllocError>
+fn push_all_arrows(out: &mut Vec<u8>, set: &[u8], nodes: &[StateNode]) -> Result<(), AllocError>
     ensures { OnOk result (out.new.items
         ≡ out.old.items ++ flat_map (spec.arrows_from set.now) nodes.now) }
 {

@@ -29,5 +29,5 @@ pub use graphing::{Drawing, graph};
 pub use launching::runner_of;
 pub use missed::{Gaps, Missed, Share, gaps_of};
 pub use missing::coverage_text;
-pub use pictures::{Arrow, Cluster, Node, Picture};
+pub use pictures::{Arrow, Cluster, Picture, StateNode};
 pub use runner::{Covered, Runner};

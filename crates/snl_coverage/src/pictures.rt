@@ -13,7 +13,7 @@ pub struct Arrow {
 
 /// A state.
 #[derive(Drop)]
-pub struct Node {
+pub struct StateNode {
     /// Its name in the source.
     pub name: Vec<u8>,
     /// Its clauses, in order.
@@ -26,7 +26,7 @@ pub struct Cluster {
     /// Its name in the source.
     pub name: Vec<u8>,
     /// Its states, in order; the first is the initial one.
-    pub nodes: Vec<Node>,
+    pub nodes: Vec<StateNode>,
 }
 
 /// A program.

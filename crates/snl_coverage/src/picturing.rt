@@ -7,7 +7,7 @@ ghost use Rattle.snl_coverage.specs.Shapes.{charted};
 
 use crate::charts::Chart;
 use crate::coverage::Coverage;
-use crate::pictures::{Arrow, Cluster, Node, Picture};
+use crate::pictures::{Arrow, Cluster, Picture, StateNode};
 use snl_legends::Conditions;
 use snl_names::pushed;
 use snl_outline::{ClauseOutline, SetOutline, StateOutline};
@@ -101,12 +101,12 @@ fn node_of(
     chart: &StateOutline,
     beside: Beside,
     place: StateNumbers,
-) -> Result<Node, AllocError>
+) -> Result<StateNode, AllocError>
     ensures { IfOk result (λ node. pictured_state node ≡ outlined_state chart.now) }
 {
     let name = Vec::from_slice(alloc, chart.name.as_slice())?;
     let arrows = arrows_of(alloc, chart.clauses.as_slice(), beside, place)?;
-    Ok(Node { name, arrows })
+    Ok(StateNode { name, arrows })
 }
 
 /// The nodes of states. `next` is the number of their first clause among all, and then that behind their last.
@@ -116,7 +116,7 @@ fn nodes_of(
     beside: Beside,
     set: usize,
     next: &mut usize,
-) -> Result<Vec<Node>, AllocError>
+) -> Result<Vec<StateNode>, AllocError>
     ensures { IfOk result (λ nodes. map pictured_state nodes.items
         ≡ map outlined_state charts.now) }
 {

@@ -22,7 +22,7 @@ use std::alloc::{AllocError, Global};
 
 /// What came of a run up to the start of its program.
 #[derive(Drop)]
-pub(crate) struct Start {
+pub(crate) struct StartOutcome {
     /// How it ended: `SinkFailed` where the program began, since the sink refuses its first byte.
     pub end: End,
     /// What the program waits for; nothing where it began.
@@ -106,7 +106,7 @@ pub(crate) fn start_of<R: Source + Drop>(
     machine: &mut Machine,
     waits: bool,
     trace: R,
-) -> Result<(Start, R), AllocError>
+) -> Result<(StartOutcome, R), AllocError>
     requires waiting { (world_held machine.old).phase ≡ Waiting }
     requires trace { R.failures trace < 2 ^ 64 - 1 }
     requires fresh { R.gave trace ≡ [] }
@@ -122,7 +122,7 @@ pub(crate) fn start_of<R: Source + Drop>(
 {
     let ran = heard_of(alloc, machine, trace)?;
     let awaited = left_of(alloc, machine, waits, ran.end)?;
-    let start = Start {
+    let start = StartOutcome {
         end: ran.end,
         awaited,
         heard: without_bad_line(ran.heard, ran.end),

@@ -2,7 +2,7 @@
 
 use crate::awaited::awaited_of;
 use crate::bad_lines::without_bad_line;
-use crate::starting::Start;
+use crate::starting::StartOutcome;
 use crate::telling::{ProgramView, start_text};
 use snl_output::{push_all, push_counted, push_told};
 use snl_trace::End;
@@ -110,7 +110,7 @@ fn push_waits(
     heard: HeardTrace,
 ) -> Result<(), AllocError> {
     let awaited = awaited_of(alloc, scene.machine, scene.waits)?;
-    let start = Start {
+    let start = StartOutcome {
         end,
         awaited,
         heard: without_bad_line(heard, end),

@@ -3,7 +3,7 @@
 use crate::awaited::Awaited;
 use crate::escaped::push_escaped;
 use crate::hints::{Hint, hint_of};
-use crate::starting::Start;
+use crate::starting::StartOutcome;
 use snl_legends::variable_of;
 use snl_links::Link;
 use snl_machine::Machine;
@@ -164,7 +164,7 @@ fn push_others(
 pub(crate) fn start_text(
     alloc: Global,
     scene: ProgramView,
-    start: &Start,
+    start: &StartOutcome,
 ) -> Result<Vec<u8>, AllocError> {
     let mut out = Vec::new(alloc);
     if start.end == End::SinkFailed {
