@@ -17,20 +17,20 @@ use std::alloc::{AllocError, Global};
 
 /// What the tokens of a source say that its tree does not.
 #[derive(Drop)]
-struct Marks {
+struct SourceMarks {
     conditions: Conditions,
     /// The offsets of the names behind `pvPut`.
     puts: Vec<usize>,
 }
 
 /// The marks of a source that can be read. The only error is that memory ends.
-fn marks_of(alloc: Global, source: &[u8]) -> Result<Marks, AllocError> {
+fn marks_of(alloc: Global, source: &[u8]) -> Result<SourceMarks, AllocError> {
     match lex(alloc, source) {
         Ok(lexed) => {
             let tokens = lexed.tokens.as_slice();
             let conditions = Conditions::of(alloc, source, tokens)?;
             let puts = put_names(alloc, tokens)?;
-            Ok(Marks { conditions, puts })
+            Ok(SourceMarks { conditions, puts })
         }
         Err(_) => Err(AllocError),
     }
@@ -67,7 +67,7 @@ pub(crate) fn charted_of<'a>(
 ) -> Result<Charted, AllocError>
     ensures { IfOk result (λ o. IsCharted (program_view checked.now.program) o.chart) }
 {
-    let Marks { conditions, puts } = marks_of(alloc, source)?;
+    let SourceMarks { conditions, puts } = marks_of(alloc, source)?;
     let declared = declared_puts(alloc, checked, puts.as_slice())?;
     let puts = put_charts(alloc, source, links, &declared)?;
     let outline = outline_of(alloc, checked.program())?;

@@ -14,7 +14,7 @@ use std::alloc::{AllocError, Global};
 
 /// The lines that are counted.
 #[derive(Drop)]
-struct Lines {
+struct CountedLines {
     /// Each once.
     keys: IndexSet<Vec<u8>>,
     /// Which of them each clause of the program has, in order.
@@ -22,7 +22,7 @@ struct Lines {
 }
 
 /// Adds the line of the next clause.
-fn push_line(alloc: Global, text: &[u8], lines: &mut Lines) -> Result<(), AllocError> {
+fn push_line(alloc: Global, text: &[u8], lines: &mut CountedLines) -> Result<(), AllocError> {
     let key = Vec::from_slice(alloc, text)?;
     let (number, _) = lines.keys.insert_full(key)?;
     lines.of_clauses.push(number)?;
@@ -30,8 +30,8 @@ fn push_line(alloc: Global, text: &[u8], lines: &mut Lines) -> Result<(), AllocE
 }
 
 /// The lines of the clauses of a program, which have these texts.
-fn lines_of(alloc: Global, texts: &[Vec<u8>]) -> Result<Lines, AllocError> {
-    let mut lines = Lines {
+fn lines_of(alloc: Global, texts: &[Vec<u8>]) -> Result<CountedLines, AllocError> {
+    let mut lines = CountedLines {
         keys: IndexSet::new(alloc),
         of_clauses: Vec::new(alloc),
     };
@@ -55,7 +55,7 @@ fn clauses_of(
     alloc: Global,
     state: &StateOutline,
     names: &IndexSet<&[u8]>,
-    lines: &Lines,
+    lines: &CountedLines,
     first: usize,
 ) -> Result<Vec<ClauseTrail>, AllocError> {
     let mut clauses = Vec::new(alloc);
@@ -77,7 +77,7 @@ fn state_trails(
     alloc: Global,
     states: &[StateOutline],
     names: &IndexSet<&[u8]>,
-    lines: &Lines,
+    lines: &CountedLines,
     next: &mut usize,
 ) -> Result<Vec<StateTrail>, AllocError> {
     let mut trails = Vec::new(alloc);
@@ -96,7 +96,7 @@ fn state_trails(
 fn set_trail(
     alloc: Global,
     set: &SetOutline,
-    lines: &Lines,
+    lines: &CountedLines,
     next: &mut usize,
 ) -> Result<SetTrail, AllocError> {
     let names = names_of(alloc, set)?;
@@ -105,7 +105,11 @@ fn set_trail(
 }
 
 /// Nothing came yet of the state sets of a program.
-fn set_trails(alloc: Global, chart: &Chart, lines: &Lines) -> Result<Vec<SetTrail>, AllocError> {
+fn set_trails(
+    alloc: Global,
+    chart: &Chart,
+    lines: &CountedLines,
+) -> Result<Vec<SetTrail>, AllocError> {
     let mut sets = Vec::new(alloc);
     let mut next = 0usize;
     for set in &chart.outline.sets {

@@ -22,7 +22,7 @@ pub(crate) const TOGETHER: usize = 4;
 
 /// The numbers of the last lines, and how far before each one like it stands.
 #[derive(Drop)]
-pub(crate) struct Marks {
+pub(crate) struct LineMarks {
     /// Of each line, by its place among all lines modulo 128.
     marks: Vec<u64>,
     /// How many lines before it one stands whose last four have the same place; 0 where that is not among the last.
@@ -66,10 +66,10 @@ fn put(numbers: &mut Vec<u64>, place: u64, number: u64) {
     }
 }
 
-impl Marks {
+impl LineMarks {
     /// Of no line. Fails only where memory ran out.
     pub(crate) fn new(alloc: Global) -> Result<Self, AllocError> {
-        Ok(Marks {
+        Ok(LineMarks {
             marks: vec![in alloc; 0u64; KEPT as usize]?,
             steps: vec![in alloc; 0u64; KEPT as usize]?,
             places: vec![in alloc; 0u64; PLACES as usize]?,

@@ -3,7 +3,7 @@
 ghost use Rattle.std.specs.Prelude.{◌≡◌, ◌≤◌, ◌<◌, ◌-◌, [], ◌∷◌, ◌++◌, length, slice_get, IfOk, IsTrue, OnOk, Some};
 ghost use Rattle.circular_buffer.specs.Buffer.{keep_last};
 
-use crate::marks::{Marks, TOGETHER};
+use crate::marks::{LineMarks, TOGETHER};
 use circular_buffer::HeapCircularBuffer;
 use std::alloc::{AllocError, Global};
 use std::mem;
@@ -20,7 +20,7 @@ pub(crate) struct Recent {
     alloc: Global,
     texts: HeapCircularBuffer<Vec<u8>>,
     /// A number of each, by which most lines differ.
-    marks: Marks,
+    marks: LineMarks,
     /// A line that comes, without its time. Its room is that of the line that was forgotten last.
     next: Vec<u8>,
 }
@@ -33,7 +33,7 @@ impl Recent {
         ensures { IfOk result (λ recent. recent_texts recent ≡ []) }
     {
         let texts = HeapCircularBuffer::with_capacity(alloc, KEPT)?;
-        let marks = Marks::new(alloc)?;
+        let marks = LineMarks::new(alloc)?;
         Ok(Recent {
             alloc,
             texts,
