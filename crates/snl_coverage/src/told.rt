@@ -9,12 +9,12 @@ use std::alloc::{AllocError, Global};
 
 /// Counts that are taken one by one.
 #[derive(Drop)]
-struct Counts<'c> {
+struct CountReader<'c> {
     all: &'c [u64],
     next: usize,
 }
 
-impl<'c> Counts<'c> {
+impl<'c> CountReader<'c> {
     /// The next count; 0 behind the last.
     fn take(&mut self) -> u64 {
         let count = self.all.get(self.next).copied().unwrap_or(0);
@@ -27,7 +27,7 @@ impl<'c> Counts<'c> {
 fn clause_trails(
     alloc: Global,
     chart: &StateOutline,
-    counts: &mut Counts,
+    counts: &mut CountReader,
 ) -> Result<Vec<ClauseTrail>, AllocError> {
     let mut clauses = Vec::new(alloc);
     for _clause in &chart.clauses {
@@ -47,7 +47,7 @@ fn clause_trails(
 fn set_trail(
     alloc: Global,
     chart: &SetOutline,
-    counts: &mut Counts,
+    counts: &mut CountReader,
 ) -> Result<SetTrail, AllocError> {
     let mut states = Vec::new(alloc);
     for state in &chart.states {
@@ -62,7 +62,7 @@ fn set_trail(
 fn set_trails(
     alloc: Global,
     chart: &Chart,
-    counts: &mut Counts,
+    counts: &mut CountReader,
 ) -> Result<Vec<SetTrail>, AllocError> {
     let mut sets = Vec::new(alloc);
     for set in &chart.outline.sets {
@@ -75,7 +75,7 @@ fn set_trails(
 fn put_counts(
     alloc: Global,
     puts: &[PutChart],
-    counts: &mut Counts,
+    counts: &mut CountReader,
 ) -> Result<Vec<u64>, AllocError> {
     let mut all = no_puts(alloc, puts)?;
     for put in puts {
@@ -103,7 +103,7 @@ pub(crate) fn told_of(
     puts: &[PutChart],
     counts: &[u64],
 ) -> Result<ProgramCoverage, AllocError> {
-    let mut counts = Counts {
+    let mut counts = CountReader {
         all: counts,
         next: 0,
     };
