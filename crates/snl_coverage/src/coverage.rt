@@ -5,7 +5,7 @@ ghost use Rattle.snl_tallies.specs.Counts.{counts_of};
 ghost use Rattle.snl_coverage.specs.Coverage.{both};
 
 use crate::charts::Chart;
-use crate::seen::Seen;
+use crate::seen::RunCoverage;
 use crate::tallies::{push_lines, push_others};
 use crate::told::{ProgramCoverage, told_of};
 use snl_tallies::Tally;
@@ -53,7 +53,7 @@ fn add_counts(counts: &mut Vec<u64>, others: &[u64])
 
 impl Coverage {
     /// Adds what was seen of the same program in another run.
-    pub(crate) fn add(&mut self, other: &Seen)
+    pub(crate) fn add(&mut self, other: &RunCoverage)
         ensures shown { self.new.shown.items ≡ both self.old.shown.items other.now.shown.items }
         ensures chart { self.new.chart ≡ self.old.chart }
     {

@@ -13,7 +13,7 @@ ghost use Rattle.snl_coverage.specs.Shapes.{charted, go_texts};
 use crate::charting::{Charted, charted_of};
 use crate::coverage::Coverage;
 use crate::runner::Runner;
-use crate::seen::{Seen, unseen};
+use crate::seen::{RunCoverage, unseen};
 use snc::{Answered, Maker, answer, boxed, macros_of};
 use snc_args::Job;
 use snl_check::Checked;
@@ -35,7 +35,7 @@ fn coverage_of<'a>(
     let macros = macros_of(job);
     let links = links(alloc, checked, &macros)?;
     let Charted { chart, puts } = charted_of(alloc, checked, source, links.as_slice())?;
-    let Seen { shown, trail } = unseen(alloc, &chart, puts.as_slice())?;
+    let RunCoverage { shown, trail } = unseen(alloc, &chart, puts.as_slice())?;
     Ok(Coverage {
         chart,
         puts,

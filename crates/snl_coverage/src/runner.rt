@@ -14,7 +14,7 @@ ghost use Rattle.snc.specs.Runs.{RunsLike};
 ghost use Rattle.snl_coverage.specs.Shapes.{charted, go_texts};
 
 use crate::coverage::Coverage;
-use crate::seen::{Counting, Seen, counting_of};
+use crate::seen::{Counting, RunCoverage, counting_of};
 use crate::watching::counts_of;
 use snl_machine::{Machine, Sink, Snapshot};
 use snl_trace::{End, Source, run};
@@ -42,7 +42,7 @@ pub struct Covered<S> {
 /// What came of a run over a whole trace.
 #[derive(Drop)]
 struct Ran<S> {
-    seen: Seen,
+    seen: RunCoverage,
     end: End,
     sink: S,
 }
@@ -81,7 +81,7 @@ fn ran_over<R: Source, S: Sink + Drop>(
     let shown = counts_of(alloc, &counter, texts.as_slice())?;
     let trail = counter.into_trail();
     Ok(Ran {
-        seen: Seen { shown, trail },
+        seen: RunCoverage { shown, trail },
         end,
         sink,
     })

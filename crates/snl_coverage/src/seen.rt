@@ -17,7 +17,7 @@ use std::alloc::{AllocError, Global};
 
 /// What runs showed. Counts stop at the largest number of 64 bits.
 #[derive(Drop)]
-pub(crate) struct Seen {
+pub(crate) struct RunCoverage {
     /// In how many lines a transition between the two states of each clause stands, in the order of the clauses.
     pub shown: Vec<u64>,
     /// What became of each clause, state and channel.
@@ -48,11 +48,15 @@ pub(crate) fn counting_of(
 }
 
 /// Nothing was seen yet of a program that puts to some channels. The only error is that memory ends.
-pub(crate) fn unseen(alloc: Global, chart: &Chart, puts: &[PutChart]) -> Result<Seen, AllocError>
+pub(crate) fn unseen(
+    alloc: Global,
+    chart: &Chart,
+    puts: &[PutChart],
+) -> Result<RunCoverage, AllocError>
     ensures { IfOk result (λ s. AreCounts (go_texts (charted chart.now)) s.shown.items []) }
 {
     let Counting { texts, counter } = counting_of(alloc, chart, puts)?;
     let shown = counts_of(alloc, &counter, texts.as_slice())?;
     let trail = counter.into_trail();
-    Ok(Seen { shown, trail })
+    Ok(RunCoverage { shown, trail })
 }
