@@ -43,7 +43,7 @@ pub struct ChannelHeard {
 
 /// What is heard of a run.
 #[derive(Clone, Debug, Drop)]
-pub struct Heard {
+pub struct RunHistory {
     /// By state set, the state that it left last, and when.
     pub left: Vec<Option<(usize, u64)>>,
     /// By channel.
@@ -56,7 +56,7 @@ pub struct Heard {
 #[derive(Drop)]
 pub(crate) struct Ear {
     /// What was heard so far.
-    pub(crate) heard: Heard,
+    pub(crate) heard: RunHistory,
     /// A state of a state set into which transitions are looked for.
     pub(crate) goal: Option<(usize, usize)>,
     /// Whether one led there.
@@ -70,7 +70,7 @@ impl Ear {
     pub(crate) fn new(alloc: Global, sets: usize, channels: usize) -> Result<Ear, AllocError> {
         let none: Option<(usize, u64)> = None;
         Ok(Ear {
-            heard: Heard {
+            heard: RunHistory {
                 left: vec![in alloc; none; sets]?,
                 channels: unheard(alloc, channels)?,
                 last: None,

@@ -15,7 +15,7 @@ mod times;
 mod waking;
 mod walks;
 
-pub use hearing::{At, ChannelHeard, Heard, PutHeard};
+pub use hearing::{At, ChannelHeard, PutHeard, RunHistory};
 pub use loading::{Subject, subject_of};
 pub use reading::moments;
 pub use walks::{Asked, Close, Kind, Moment};

@@ -14,7 +14,7 @@ ghost use Rattle.snl_load.specs.Places.{channels, flags_in, homes_in};
 ghost use Rattle.snl_load.specs.Sets.{names_in};
 ghost use Rattle.snl_vm.specs.Views.{world_of};
 
-use crate::hearing::{Ear, Heard};
+use crate::hearing::{Ear, RunHistory};
 use crate::walks::{Moment, Sort};
 use indexmap::IndexSet;
 use snl_check::Checked;
@@ -211,7 +211,7 @@ impl Subject {
     }
 
     /// What was heard of the run.
-    pub fn heard(&self) -> &Heard {
+    pub fn heard(&self) -> &RunHistory {
         &self.ear.heard
     }
 }

@@ -1,6 +1,6 @@
 //! What is asked for of a walk along a trace, and what comes of it.
 
-use crate::hearing::Heard;
+use crate::hearing::RunHistory;
 use snl_trace::End;
 use snl_vm::Store;
 
@@ -47,7 +47,7 @@ pub struct Moment {
     /// All that a run changes, but for the names of channels and what links are tied to.
     pub store: Store,
     /// What was heard of the run up to then.
-    pub heard: Heard,
+    pub heard: RunHistory,
 }
 
 /// How a walk ended.

@@ -4,7 +4,7 @@ use crate::contrasting::{Wished, wishes_of};
 use snc::{Answered, Judgement, Status, judged, macros_of};
 use snc_args::Job;
 use snc_cli::{source_in, tell, write};
-use snl_alphabet::{Heard, Limits, Watches, WishFault};
+use snl_alphabet::{Limits, ProgramInputs, Watches, WishFault};
 use snl_args::SearchWords;
 use snl_cli::{Asked, WatchPair, check_both, job_of_file, places_of, watch_pair_of, write_trace};
 use snl_equivalence::PairWishes;
@@ -120,7 +120,7 @@ fn told_answer(rt: &HostRuntime, words: &SearchWords, answer: &WatchedAnswer) ->
 fn searched<'c>(
     rt: &'c HostRuntime,
     guard: Guard,
-    heard: Heard,
+    heard: ProgramInputs,
     crew: Crew,
     question: &WatchedQuestion,
     limits: &mut Limits<Clock<'c>>,
@@ -140,7 +140,7 @@ fn heard_if<T: Hears<W> + Drop, W: Watches>(
     machine: &Machine,
     like: &Option<File>,
     limits: &mut Limits<W>,
-) -> Result<Option<Heard>, WishFault> {
+) -> Result<Option<ProgramInputs>, WishFault> {
     let Some(program) = program else {
         return Ok(None);
     };
@@ -156,7 +156,7 @@ fn heard_in<W: Watches>(
     machine: &Machine,
     like: &Option<File>,
     limits: &mut Limits<W>,
-) -> Result<Option<Heard>, WishFault> {
+) -> Result<Option<ProgramInputs>, WishFault> {
     let Asked { source, call, .. } = guard.asked;
     let job = &call.job;
     match judged(rt.alloc(), job.file.as_bytes(), source, job.options) {

@@ -3,7 +3,7 @@
 use crate::names::{Legend, LinkNames};
 use crate::values::{push_count, push_numbers};
 use snl_meaning::Tied;
-use snl_moments::{At, ChannelHeard, Heard, PutHeard};
+use snl_moments::{At, ChannelHeard, PutHeard, RunHistory};
 use snl_output::{push_all, push_told};
 use snl_vm::{Queue, Store};
 use std::alloc::{AllocError, Global};
@@ -83,7 +83,7 @@ pub(crate) fn push_channels(
     out: &mut Vec<u8>,
     legend: &Legend,
     store: &Store,
-    heard: &Heard,
+    heard: &RunHistory,
 ) -> Result<(), AllocError> {
     for (number, name) in legend.channels.iter().enumerate() {
         if let Some(heard) = heard.channels.get(number) {
@@ -171,7 +171,7 @@ pub(crate) fn push_puts(
     out: &mut Vec<u8>,
     legend: &Legend,
     store: &Store,
-    heard: &Heard,
+    heard: &RunHistory,
 ) -> Result<(), AllocError> {
     for (number, name) in legend.channels.iter().enumerate() {
         let Some(heard) = heard.channels.get(number) else {

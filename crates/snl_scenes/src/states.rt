@@ -4,7 +4,7 @@ use crate::clauses::push_clauses;
 use crate::names::{Legend, SetNames, VariableNames};
 use crate::steps::Sight;
 use crate::values::push_numbers;
-use snl_moments::Heard;
+use snl_moments::RunHistory;
 use snl_output::{push_all, push_told};
 use snl_vm::{SetMemory, Store};
 use std::alloc::{AllocError, Global};
@@ -79,7 +79,7 @@ pub(crate) fn push_states<'s>(
     out: &mut Vec<u8>,
     legend: &'s Legend,
     store: &'s Store,
-    heard: &Heard,
+    heard: &RunHistory,
     runs_at: Option<u64>,
 ) -> Result<(), AllocError> {
     for (number, set) in legend.sets.iter().enumerate() {

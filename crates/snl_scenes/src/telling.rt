@@ -15,7 +15,7 @@ use crate::staging::Scene;
 use crate::states::{push_flags, push_states, push_variables};
 use crate::waiting::push_waits;
 use snl_machine::Live;
-use snl_moments::{Asked, Close, Heard, Kind, Moment, moments};
+use snl_moments::{Asked, Close, Kind, Moment, RunHistory, moments};
 use snl_output::{fault_text, push_all, push_told};
 use snl_trace::{End, Source};
 use snl_vm::Store;
@@ -33,7 +33,12 @@ pub struct Answer {
 }
 
 /// Adds behind which line of the trace a moment of a time stands, and the time of that line, where it is another one.
-fn push_behind(out: &mut Vec<u8>, heard: &Heard, ms: u64, is_last: bool) -> Result<(), AllocError> {
+fn push_behind(
+    out: &mut Vec<u8>,
+    heard: &RunHistory,
+    ms: u64,
+    is_last: bool,
+) -> Result<(), AllocError> {
     let Some(last) = heard.last else {
         return out.extend_from_slice(b", before the first event\n");
     };
@@ -49,7 +54,7 @@ fn push_behind(out: &mut Vec<u8>, heard: &Heard, ms: u64, is_last: bool) -> Resu
 }
 
 /// Adds at which line of the trace something happened at a time, or that a wake came in front of a line, or behind it.
-fn push_where(out: &mut Vec<u8>, heard: &Heard, ms: u64) -> Result<(), AllocError> {
+fn push_where(out: &mut Vec<u8>, heard: &RunHistory, ms: u64) -> Result<(), AllocError> {
     let Some(last) = heard.last else {
         return out.extend_from_slice(b"\n");
     };

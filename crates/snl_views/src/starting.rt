@@ -61,7 +61,7 @@ fn left_of(
 
 /// How a run ended that could write nothing, what was heard of its trace, and the trace.
 #[derive(Drop)]
-struct Heard<R> {
+struct MutedRun<R> {
     end: End,
     heard: HeardTrace,
     trace: R,
@@ -72,7 +72,7 @@ fn heard_of<R: Source + Drop>(
     alloc: Global,
     machine: &mut Machine,
     trace: R,
-) -> Result<Heard<R>, AllocError>
+) -> Result<MutedRun<R>, AllocError>
     requires trace { R.failures trace < 2 ^ 64 - 1 }
     requires fresh { R.gave trace ≡ [] }
     ensures stays { IfOk result (λ _. StaysMachineOf machine.old machine.new) }
@@ -94,7 +94,7 @@ fn heard_of<R: Source + Drop>(
     if heard.ran_out() {
         return Err(AllocError);
     }
-    Ok(Heard { end, heard, trace })
+    Ok(MutedRun { end, heard, trace })
 }
 
 /// Runs a machine that has not started over a trace, up to the line at which its program begins, or to the end of the trace.
