@@ -18,5 +18,5 @@ mod wrongs;
 pub use meanings::Lexicon;
 pub use names::{Names, Store};
 pub use puts::{begins_program, cut, has_end, put_twice};
-pub use scouting::{Ground, Machines, Said, Scouted, Scouts, scouted_by};
+pub use scouting::{Ground, Machines, Scouted, Scouts, SearchFacts, scouted_by};
 pub use wanted::{Wanted, WishedEnd, wanted_of};
