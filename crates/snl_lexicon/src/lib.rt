@@ -16,7 +16,7 @@ mod wanted;
 mod wrongs;
 
 pub use meanings::Lexicon;
-pub use names::{Names, Store};
+pub use names::{ProgramNames, Store};
 pub use puts::{begins_program, cut, has_end, put_twice};
 pub use scouting::{Ground, Machines, Scouted, Scouts, SearchFacts, scouted_by};
 pub use wanted::{Wanted, WishedEnd, wanted_of};

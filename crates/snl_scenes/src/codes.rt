@@ -16,7 +16,7 @@ fn add(steps: &mut Vec<Step>, step: Step) -> Result<(), AllocError> {
 
 /// What names in a condition mean.
 #[derive(Clone, Copy)]
-pub(crate) struct Names<'n> {
+pub(crate) struct ExpressionNames<'n> {
     /// The declarations that they mean.
     pub uses: &'n UseTable,
     /// The variables of the copy of the state set.
@@ -27,7 +27,7 @@ pub(crate) struct Names<'n> {
     pub links: &'n [Link],
 }
 
-impl Names<'_> {
+impl ExpressionNames<'_> {
     /// The variable that a name means.
     pub(crate) fn variable(self, name: Token) -> Option<Variable> {
         let declared = self.uses.declared(name.pos.offset)?;
@@ -90,7 +90,7 @@ fn element_of<'a>(expression: &Expr<'a>) -> Option<(Token<'a>, usize)> {
 }
 
 /// The step of a question about an event flag.
-fn flag_step(query: Query, name: Token, names: Names) -> Option<Step> {
+fn flag_step(query: Query, name: Token, names: ExpressionNames) -> Option<Step> {
     match query {
         Query::EfTest | Query::EfTestAndClear | Query::EfClear => {
             Some(Step::Flag(names.flag(name)?))
@@ -100,7 +100,7 @@ fn flag_step(query: Query, name: Token, names: Names) -> Option<Step> {
 }
 
 /// The step of a question about a link; one that is not there is answered by 0.
-fn link_step(query: Query, name: Token, index: usize, names: Names) -> Option<Step> {
+fn link_step(query: Query, name: Token, index: usize, names: ExpressionNames) -> Option<Step> {
     let Some(link) = names.link(name, index) else {
         return match query {
             Query::PvConnected | Query::PvPutComplete | Query::PvGetQ => Some(Step::Number(0)),
@@ -116,7 +116,7 @@ fn link_step(query: Query, name: Token, index: usize, names: Names) -> Option<St
 }
 
 /// The step of a question about what an expression names.
-fn asked_of<'a>(query: Query, expression: &Expr<'a>, names: Names) -> Option<Step> {
+fn asked_of<'a>(query: Query, expression: &Expr<'a>, names: ExpressionNames) -> Option<Step> {
     let (name, index) = element_of(expression)?;
     match flag_step(query, name, names) {
         Some(step) => Some(step),
@@ -125,7 +125,7 @@ fn asked_of<'a>(query: Query, expression: &Expr<'a>, names: Names) -> Option<Ste
 }
 
 /// The step of a question.
-fn query_step<'a>(query: Query, arguments: &[Argument<'a>], names: Names) -> Step {
+fn query_step<'a>(query: Query, arguments: &[Argument<'a>], names: ExpressionNames) -> Step {
     match query {
         Query::PvChannelCount => Step::Count(false),
         Query::PvConnectCount => Step::Count(true),
@@ -140,7 +140,7 @@ fn query_step<'a>(query: Query, arguments: &[Argument<'a>], names: Names) -> Ste
 #[cycle(code)]
 pub(crate) fn push_length<'a>(
     argument: &Expr<'a>,
-    names: Names,
+    names: ExpressionNames,
     steps: &mut Vec<Step>,
 ) -> Result<bool, AllocError> {
     if is_decimal(argument) {
@@ -155,7 +155,7 @@ pub(crate) fn push_length<'a>(
 #[cycle(code)]
 fn push_delay<'a>(
     arguments: &[Argument<'a>],
-    names: Names,
+    names: ExpressionNames,
     steps: &mut Vec<Step>,
 ) -> Result<(), AllocError> {
     for argument in arguments {
@@ -172,7 +172,7 @@ fn push_delay<'a>(
 fn push_call<'a>(
     name: &Token<'a>,
     arguments: &[Argument<'a>],
-    names: Names,
+    names: ExpressionNames,
     steps: &mut Vec<Step>,
 ) -> Result<(), AllocError> {
     match builtin_of(name.text) {
@@ -191,7 +191,7 @@ fn constant_step<'a>(expression: &Expr<'a>) -> Step {
 }
 
 /// The step of a name alone: the first element of a variable, or a predefined number.
-fn name_step<'a>(expression: &Expr<'a>, name: Token, names: Names) -> Step {
+fn name_step<'a>(expression: &Expr<'a>, name: Token, names: ExpressionNames) -> Step {
     match names.variable(name) {
         Some(variable) => Step::Word(variable.place),
         None => constant_step(expression),
@@ -202,7 +202,7 @@ fn name_step<'a>(expression: &Expr<'a>, name: Token, names: Names) -> Step {
 #[cycle(code)]
 fn push_terms<'a>(
     terms: &[Term<'a>],
-    names: Names,
+    names: ExpressionNames,
     steps: &mut Vec<Step>,
 ) -> Result<(), AllocError> {
     for term in terms {
@@ -217,7 +217,7 @@ fn push_terms<'a>(
 fn push_element<'a>(
     name: &Token<'a>,
     index: &Expr<'a>,
-    names: Names,
+    names: ExpressionNames,
     steps: &mut Vec<Step>,
 ) -> Result<(), AllocError> {
     push_steps(index, names, steps)?;
@@ -233,7 +233,7 @@ fn push_element<'a>(
 fn push_signed<'a>(
     operand: &Expr<'a>,
     sign: Kind,
-    names: Names,
+    names: ExpressionNames,
     steps: &mut Vec<Step>,
 ) -> Result<(), AllocError> {
     push_steps(operand, names, steps)?;
@@ -249,7 +249,7 @@ fn changes(sign: Kind) -> bool {
 #[cycle(code)]
 pub(crate) fn push_steps<'a>(
     expression: &Expr<'a>,
-    names: Names,
+    names: ExpressionNames,
     steps: &mut Vec<Step>,
 ) -> Result<(), AllocError> {
     match expression {

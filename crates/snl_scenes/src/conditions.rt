@@ -1,6 +1,6 @@
 //! The parts of conditions, as the person wrote them: what stands between `&&` and `||`, with the values of its variables.
 
-use crate::codes::{Names, first_value, push_length, push_steps};
+use crate::codes::{ExpressionNames, first_value, push_length, push_steps};
 use crate::named::{Values, values_of};
 use crate::sources::{Joint, Source, Span};
 use crate::steps::Step;
@@ -116,7 +116,7 @@ fn delay_in<'e, 'a>(expression: &'e Expr<'a>) -> Option<&'e Expr<'a>> {
 /// Adds the steps of what is told of a part, and answers what that is.
 fn push_test<'a>(
     expression: &Expr<'a>,
-    names: Names,
+    names: ExpressionNames,
     steps: &mut Vec<Step>,
 ) -> Result<Test, AllocError> {
     match delay_in(expression) {
@@ -137,7 +137,7 @@ fn part_of<'a>(
     expression: &Expr<'a>,
     source: &Source,
     span: Span,
-    names: Names,
+    names: ExpressionNames,
 ) -> Result<Part, AllocError> {
     let values: Values = values_of(alloc, expression, names)?;
     let pieces = pieces_of(alloc, source, span, &values)?;
@@ -157,7 +157,7 @@ fn push_part<'a>(
     expression: &Expr<'a>,
     source: &Source,
     spans: &[Span],
-    names: Names,
+    names: ExpressionNames,
     parts: &mut Vec<Part>,
 ) -> Result<(), AllocError> {
     if let Some(span) = spans.get(parts.len()) {
@@ -173,7 +173,7 @@ fn push_operands<'a>(
     terms: &[Term<'a>],
     source: &Source,
     spans: &[Span],
-    names: Names,
+    names: ExpressionNames,
     parts: &mut Vec<Part>,
 ) -> Result<(), AllocError> {
     for term in terms {
@@ -189,7 +189,7 @@ fn push_parts<'a>(
     expression: &Expr<'a>,
     source: &Source,
     spans: &[Span],
-    names: Names,
+    names: ExpressionNames,
     parts: &mut Vec<Part>,
 ) -> Result<(), AllocError> {
     match expression {
@@ -208,7 +208,7 @@ pub(crate) fn parts_of<'a>(
     condition: &Expr<'a>,
     source: &Source,
     word: usize,
-    names: Names,
+    names: ExpressionNames,
 ) -> Result<Vec<Part>, AllocError> {
     let whole = source.condition(word);
     let spans = spans_of(alloc, source.tokens(whole), whole)?;

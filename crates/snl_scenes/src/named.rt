@@ -1,6 +1,6 @@
 //! The values of the variables that a condition names.
 
-use crate::codes::{Names, push_steps};
+use crate::codes::{ExpressionNames, push_steps};
 use crate::steps::Step;
 use indexmap::IndexMap;
 use snl_resolve::{Builtin, builtin_of};
@@ -18,7 +18,7 @@ fn push_element_value<'a>(
     index: &Expr<'a>,
     expression: &Expr<'a>,
     bracket: &Token<'a>,
-    names: Names,
+    names: ExpressionNames,
     values: &mut Values,
 ) -> Result<(), AllocError> {
     let mut steps = Vec::new(alloc);
@@ -31,7 +31,7 @@ fn push_element_value<'a>(
 fn push_name_value(
     alloc: Global,
     name: Token,
-    names: Names,
+    names: ExpressionNames,
     values: &mut Values,
 ) -> Result<(), AllocError> {
     match names.variable(name) {
@@ -50,7 +50,7 @@ fn push_name_value(
 fn push_term_values<'a>(
     alloc: Global,
     terms: &[Term<'a>],
-    names: Names,
+    names: ExpressionNames,
     values: &mut Values,
 ) -> Result<(), AllocError> {
     for term in terms {
@@ -65,7 +65,7 @@ fn push_argument_values<'a>(
     alloc: Global,
     name: &Token<'a>,
     arguments: &[Argument<'a>],
-    names: Names,
+    names: ExpressionNames,
     values: &mut Values,
 ) -> Result<(), AllocError> {
     if let Some(Builtin::Ask(_)) = builtin_of(name.text) {
@@ -84,7 +84,7 @@ fn push_argument_values<'a>(
 fn push_values<'a>(
     alloc: Global,
     expression: &Expr<'a>,
-    names: Names,
+    names: ExpressionNames,
     values: &mut Values,
 ) -> Result<(), AllocError> {
     match expression {
@@ -119,7 +119,7 @@ fn push_values<'a>(
 pub(crate) fn values_of<'a>(
     alloc: Global,
     expression: &Expr<'a>,
-    names: Names,
+    names: ExpressionNames,
 ) -> Result<Values, AllocError> {
     let mut values = IndexMap::new(alloc);
     push_values(alloc, expression, names, &mut values)?;

@@ -1,6 +1,6 @@
 //! What the parts of a program are called.
 
-use crate::codes::Names;
+use crate::codes::ExpressionNames;
 use crate::conditions::{Part, parts_of};
 use crate::sources::Source;
 use indexmap::IndexSet;
@@ -105,7 +105,7 @@ fn parts_in<'a>(
     alloc: Global,
     clause: &Clause<'a>,
     source: &Source,
-    names: Names,
+    names: ExpressionNames,
 ) -> Result<Vec<Part>, AllocError> {
     match &clause.condition {
         Some(condition) => parts_of(alloc, condition, source, clause.word.pos.offset, names),
@@ -118,7 +118,7 @@ fn clauses_in<'a>(
     alloc: Global,
     state: &State<'a>,
     source: &Source,
-    names: Names,
+    names: ExpressionNames,
 ) -> Result<Vec<ClauseNames>, AllocError> {
     let mut clauses = Vec::new(alloc);
     for clause in &state.clauses {
@@ -136,7 +136,7 @@ fn states_in<'a>(
     alloc: Global,
     set: &StateSet<'a>,
     source: &Source,
-    names: Names,
+    names: ExpressionNames,
 ) -> Result<Vec<StateNames>, AllocError> {
     let mut states = Vec::new(alloc);
     for state in &set.states {
@@ -155,7 +155,7 @@ fn set_names<'a>(
     set: &StateSet<'a>,
     source: &Source,
     variables: Vec<VariableNames>,
-    names: Names,
+    names: ExpressionNames,
 ) -> Result<SetNames, AllocError> {
     let states = states_in(alloc, set, source, names)?;
     Ok(SetNames {
@@ -177,7 +177,7 @@ fn sets_in<'a>(
     let mut sets = Vec::new(alloc);
     for (number, set) in checked.program().state_sets.iter().enumerate() {
         if let (Some(held), Some(places)) = (copies.held.get(number), copies.places.get(number)) {
-            let names = Names {
+            let names = ExpressionNames {
                 uses: checked.uses(),
                 places,
                 flags,
