@@ -12,7 +12,7 @@ use std::alloc::{AllocError, Global};
 
 /// A source, with the job of its file.
 #[derive(Clone, Copy)]
-pub struct Piece<'c> {
+pub struct SourceJob<'c> {
     /// The bytes of the file.
     pub source: &'c [u8],
     /// The word that names it, and what the call says of its options and macros.
@@ -92,7 +92,7 @@ pub fn check_lints(rt: &HostRuntime, words: &CheckWords) -> Result<(), Status> {
 /// Writes the messages and the lines of the lints.
 fn told_remarks(
     rt: &HostRuntime,
-    piece: Piece,
+    piece: SourceJob,
     words: &CheckWords,
     messages: &[u8],
     lines: &[u8],
@@ -112,7 +112,7 @@ fn told_remarks(
 }
 
 /// Writes the messages, and a note on each behind them.
-fn told_messages(rt: &HostRuntime, piece: Piece, format: Format, messages: &[u8]) -> Status {
+fn told_messages(rt: &HostRuntime, piece: SourceJob, format: Format, messages: &[u8]) -> Status {
     let Ok(notes) = notes_on(rt, piece, format, messages) else {
         return Status::Memory;
     };
@@ -124,7 +124,7 @@ fn told_messages(rt: &HostRuntime, piece: Piece, format: Format, messages: &[u8]
 }
 
 /// The same of a program that has an error.
-fn told_errors(rt: &HostRuntime, piece: Piece, format: Format, messages: &[u8]) -> Status {
+fn told_errors(rt: &HostRuntime, piece: SourceJob, format: Format, messages: &[u8]) -> Status {
     match told_messages(rt, piece, format, messages) {
         Status::Well => Status::SourceErrors,
         failed => failed,
@@ -132,7 +132,7 @@ fn told_errors(rt: &HostRuntime, piece: Piece, format: Format, messages: &[u8]) 
 }
 
 /// Writes what `snc` tells of a program, behind it a note on each message, and what lints remark, where no message is an error.
-pub fn answered_check(rt: &HostRuntime, piece: Piece, words: &CheckWords) -> Status {
+pub fn answered_check(rt: &HostRuntime, piece: SourceJob, words: &CheckWords) -> Status {
     let Ok(Answered { messages, made }) = answer(rt.alloc(), piece.job, piece.source, words) else {
         return Status::Memory;
     };

@@ -1,6 +1,6 @@
 //! The notes on the messages about a source.
 
-use crate::checking::Piece;
+use crate::checking::SourceJob;
 use snl_args::Format;
 use snl_notes::{Form, Read, notes_of};
 use std::alloc::AllocError;
@@ -17,7 +17,7 @@ fn form_of(format: Format) -> Form {
 /// A note on each message, where there are some. The only error is that memory ends.
 pub fn notes_on(
     rt: &HostRuntime,
-    piece: Piece,
+    piece: SourceJob,
     format: Format,
     messages: &[u8],
 ) -> Result<Vec<u8>, AllocError> {

@@ -4,13 +4,13 @@ use crate::asked::Asked;
 use snc::{Answered, Job, Maker, Status, answer};
 use snc_cli::write;
 use snl_check::Checked;
-use snl_outline::{Form, outline_text};
+use snl_outline::{OutlineForm, outline_text};
 use std::alloc::{AllocError, Global};
 
 /// Makes a line for each state of a program, in a form.
 #[derive(Clone, Copy)]
 struct Outlines {
-    form: Form,
+    form: OutlineForm,
 }
 
 impl Maker<Vec<u8>> for Outlines {
@@ -38,9 +38,9 @@ fn told_outline(rt: &HostRuntime, text: &[u8]) -> Status {
 /// `snl sets`: writes a line for each state of a program, where no message about it is an error. The messages come behind it.
 pub fn answered_sets(rt: &HostRuntime, asked: Asked, declares: bool) -> Result<Status, Status> {
     let form = if declares {
-        Form::Declarations
+        OutlineForm::Declarations
     } else {
-        Form::Numbers
+        OutlineForm::Numbers
     };
     let outlines = Outlines { form };
     let Ok(Answered { messages, made }) = answer(

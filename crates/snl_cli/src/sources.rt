@@ -1,6 +1,6 @@
 //! The files that a check looks at: those that the call names, and of a folder the programs in it.
 
-use crate::checking::{Piece, answered_check};
+use crate::checking::{SourceJob, answered_check};
 use crate::jobs::job_of_file;
 use snc::Status;
 use snc_cli::source_in;
@@ -59,7 +59,7 @@ fn checked_source(
     source: &[u8],
 ) -> Status {
     match job_of_file(rt.alloc(), &call.job, file) {
-        Ok(job) => answered_check(rt, Piece { source, job: &job }, words),
+        Ok(job) => answered_check(rt, SourceJob { source, job: &job }, words),
         Err(_) => Status::Memory,
     }
 }

@@ -3,7 +3,7 @@ use Rattle.std.specs.Prelude.{◌≡◌, ℕ, List, [], ◌∷◌, None, codes}
 use Rattle.snl_text.specs.declared.tokens.Token.{Token}
 use Rattle.snl_text.specs.declared.kinds.Kind.TheVariants as kind
 use Rattle.snl_syntax.specs.Programs.{StateTree, StateSetTree, ProgramTree}
-use Rattle.snl_outline.specs.declared.outline.Form.TheVariants.{Numbers, Declarations}
+use Rattle.snl_outline.specs.declared.outline.OutlineForm.TheVariants.{Numbers, Declarations}
 use Rattle.snl_outline.specs.Outline.{outline}
 
 -- a name on a line

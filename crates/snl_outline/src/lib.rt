@@ -6,5 +6,5 @@ pub mod laws;
 mod outline;
 mod shapes;
 
-pub use outline::{Form, outline_text};
+pub use outline::{OutlineForm, outline_text};
 pub use shapes::{ClauseOutline, ProgramOutline, SetOutline, StateOutline, outline_of};

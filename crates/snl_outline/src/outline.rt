@@ -12,7 +12,7 @@ use std::alloc::{AllocError, Global};
 
 /// What the line of a state says.
 #[derive(Clone, Copy)]
-pub enum Form {
+pub enum OutlineForm {
     /// `SET NUMBER STATE line LINE`.
     Numbers,
     /// `int SET_STATE = NUMBER;`, a declaration for another program.
@@ -71,20 +71,20 @@ fn push_state<'a>(
     set: Token<'a>,
     number: usize,
     state: Token<'a>,
-    form: Form,
+    form: OutlineForm,
     out: &mut Vec<u8>,
 ) -> Result<(), AllocError>
     ensures { OnOk result (out.new.items ≡ out.old.items
         ++ spec.state_line form set.entry.text.now number state.entry) }
 {
     match form {
-        Form::Numbers => push_numbers(set.text, number, state.text, state.pos.line, out),
-        Form::Declarations => push_declaration(set.text, number, state.text, out),
+        OutlineForm::Numbers => push_numbers(set.text, number, state.text, state.pos.line, out),
+        OutlineForm::Declarations => push_declaration(set.text, number, state.text, out),
     }
 }
 
 /// Adds the lines of a state set.
-fn push_set(set: &StateSet, form: Form, out: &mut Vec<u8>) -> Result<(), AllocError>
+fn push_set(set: &StateSet, form: OutlineForm, out: &mut Vec<u8>) -> Result<(), AllocError>
     ensures { OnOk result (out.new.items ≡ out.old.items
         ++ spec.set_text form (state_set_view set.now)) }
 {
@@ -95,7 +95,7 @@ fn push_set(set: &StateSet, form: Form, out: &mut Vec<u8>) -> Result<(), AllocEr
 }
 
 /// Adds the lines of state sets.
-fn push_sets(sets: &[StateSet], form: Form, out: &mut Vec<u8>) -> Result<(), AllocError>
+fn push_sets(sets: &[StateSet], form: OutlineForm, out: &mut Vec<u8>) -> Result<(), AllocError>
     ensures { OnOk result (out.new.items ≡ out.old.items
         ++ spec.sets_text form (map state_set_view sets.now)) }
 {
@@ -112,7 +112,7 @@ fn push_sets(sets: &[StateSet], form: Form, out: &mut Vec<u8>) -> Result<(), All
 pub fn outline_text<'a>(
     alloc: Global,
     program: &Program<'a>,
-    form: Form,
+    form: OutlineForm,
 ) -> Result<Vec<u8>, AllocError>
     ensures { IfOk result (λ text. text.items ≡ spec.outline form (program_view program.now)) }
 {

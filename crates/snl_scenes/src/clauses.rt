@@ -4,7 +4,7 @@ use crate::conditions::{Part, Test};
 use crate::names::{ClauseNames, StateNames};
 use crate::sources::Joint;
 use crate::steps::{Sight, worth};
-use crate::texts::Piece;
+use crate::texts::TextPiece;
 use crate::values::{push_count, push_number, push_seconds};
 use snl_output::push_all;
 use std::alloc::{AllocError, Global};
@@ -13,7 +13,7 @@ use std::alloc::{AllocError, Global};
 fn push_piece(
     alloc: Global,
     out: &mut Vec<u8>,
-    piece: &Piece,
+    piece: &TextPiece,
     sight: Sight,
 ) -> Result<(), AllocError> {
     out.extend_from_slice(piece.text.as_slice())?;

@@ -4,7 +4,7 @@ use crate::codes::{ExpressionNames, first_value, push_length, push_steps};
 use crate::named::{Values, values_of};
 use crate::sources::{Joint, Source, Span};
 use crate::steps::Step;
-use crate::texts::{Piece, pieces_of};
+use crate::texts::{TextPiece, pieces_of};
 use snl_resolve::{Builtin, builtin_of};
 use snl_syntax::{Expr, Term};
 use snl_text::{Kind, Token};
@@ -24,7 +24,7 @@ pub(crate) enum Test {
 pub(crate) struct Part {
     /// What joins it with the part in front of it.
     pub joint: Joint,
-    pub pieces: Vec<Piece>,
+    pub pieces: Vec<TextPiece>,
     pub test: Test,
     /// The steps of what it is worth, or of how long its `delay` is.
     pub steps: Vec<Step>,

@@ -12,7 +12,7 @@ const TOLD: usize = 200;
 
 /// A piece of the text of a part: bytes, and the value behind them, where one is told.
 #[derive(Drop)]
-pub(crate) struct Piece {
+pub(crate) struct TextPiece {
     pub text: Vec<u8>,
     /// The steps of the value; none where none is told.
     pub value: Vec<Step>,
@@ -22,7 +22,7 @@ pub(crate) struct Piece {
 #[derive(Drop)]
 struct Begun {
     /// The pieces in front of values.
-    pieces: Vec<Piece>,
+    pieces: Vec<TextPiece>,
     /// What came behind them.
     text: Vec<u8>,
     /// Where the brackets stand that are open.
@@ -99,7 +99,7 @@ impl Begun {
     fn part(&mut self, alloc: Global, steps: &[Step]) -> Result<(), AllocError> {
         let value = Vec::from_slice(alloc, steps)?;
         let text = replace(&mut self.text, Vec::new(alloc));
-        self.pieces.push(Piece { text, value })?;
+        self.pieces.push(TextPiece { text, value })?;
         Ok(())
     }
 
@@ -126,7 +126,7 @@ pub(crate) fn pieces_of(
     source: &Source,
     span: Span,
     values: &Values,
-) -> Result<Vec<Piece>, AllocError> {
+) -> Result<Vec<TextPiece>, AllocError> {
     let tokens = source.tokens(span);
     let first = tokens.first().map_or(0, |first| first.pos.offset);
     let mut begun = Begun::new(alloc, first);
