@@ -64,7 +64,7 @@ impl<K> Observed<K> {
 
 /// The line of the trace that has begun, and its number, from 1.
 #[derive(Drop)]
-struct Reading {
+struct LineReader {
     begun: Line,
     number: u128,
 }
@@ -91,7 +91,7 @@ fn take_line<K: Sink>(
     run: &mut Program,
     watch: &mut Program,
     log: &mut Log<K>,
-    reading: &mut Reading,
+    reading: &mut LineReader,
     text: &[u8],
 ) -> Option<Close>
     requires number { reading.old.number < 2 ^ 128 - 1 }
@@ -105,7 +105,7 @@ fn take_line<K: Sink>(
     ensures number { reading.new.number ≤ reading.old.number + 1 }
     ensures source { IfSome result (λ close. source_failed close ≡ false) }
 {
-    let Reading { begun, number } = reading;
+    let LineReader { begun, number } = reading;
     if begun.is_empty() {
         return step(run, watch, log, text, number);
     }
@@ -123,7 +123,7 @@ fn take_in<K: Sink>(
     run: &mut Program,
     watch: &mut Program,
     log: &mut Log<K>,
-    reading: &mut Reading,
+    reading: &mut LineReader,
     bytes: &[u8],
 ) -> Option<Close>
     requires number { reading.old.number + length bytes.now < 2 ^ 128 }
@@ -155,7 +155,7 @@ fn finish<K: Sink>(
     run: &mut Program,
     watch: &mut Program,
     log: &mut Log<K>,
-    reading: &mut Reading,
+    reading: &mut LineReader,
 ) -> Close
     requires number { reading.old.number < 2 ^ 128 - 1 }
     ensures finishes { Finishes reading.old.begun.items (stand_by run.old watch.old
@@ -165,7 +165,7 @@ fn finish<K: Sink>(
         log.new.page.watch.bytes log.new.how log.new.page.is_stuck) result }
     ensures source { source_failed result ≡ false }
 {
-    let Reading { begun, number } = reading;
+    let LineReader { begun, number } = reading;
     if begun.is_empty() {
         return Close::Run(End::TraceEnded);
     }
@@ -177,7 +177,7 @@ fn observe_over<R: Source, K: Sink>(
     run: &mut Program,
     watch: &mut Program,
     log: &mut Log<K>,
-    reading: &mut Reading,
+    reading: &mut LineReader,
     trace: &mut R,
 ) -> Close
     requires trace { R.failures trace.old < 2 ^ 64 - 1 }
@@ -261,7 +261,7 @@ pub fn observe<R: Source, K: Sink + Drop>(
         ≡ counted (source_failed o.close) (R.failures trace.old)) }
 {
     let mut log = log_of(alloc, watch, never, sink)?;
-    let mut reading = Reading {
+    let mut reading = LineReader {
         begun: Line::new(),
         number: 1,
     };

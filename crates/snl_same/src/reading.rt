@@ -31,7 +31,7 @@ const PIECE: usize = 65_536;
 
 /// What a comparison keeps of its trace.
 #[derive(Drop)]
-struct Reading {
+struct EventReader {
     /// The line that has not ended yet.
     begun: Line,
     /// Room for the events of all lines.
@@ -102,7 +102,7 @@ fn extend(line: &mut Line, bytes: &[u8]) -> bool
 fn take_line(
     text: &[u8],
     known: Option<Known>,
-    reading: &mut Reading,
+    reading: &mut EventReader,
     old: &mut Side,
     new: &mut Side,
     log: &mut Log,
@@ -119,7 +119,7 @@ fn take_line(
     ensures number { IfOk result (λ _. log.new.number ≤ log.old.number + 1) }
     ensures source { IfOk result (λ close. IfSome close (λ c. source_failed c ≡ false)) }
 {
-    let Reading { begun, events } = reading;
+    let EventReader { begun, events } = reading;
     if begun.is_empty() {
         return step(text, known, events, old, new, log);
     }
@@ -135,7 +135,7 @@ fn take_line(
 /// comparison ends in them, if it does. The only error is that memory ends.
 fn take_in(
     bytes: &[u8],
-    reading: &mut Reading,
+    reading: &mut EventReader,
     old: &mut Side,
     new: &mut Side,
     log: &mut Log,
@@ -169,7 +169,7 @@ fn take_in(
 
 /// Ends a comparison behind the last byte of the trace: a line without its newline is one. The only error is that memory ends.
 fn finish(
-    reading: &mut Reading,
+    reading: &mut EventReader,
     old: &mut Side,
     new: &mut Side,
     log: &mut Log,
@@ -179,7 +179,7 @@ fn finish(
         (stand_of log.old old.old new.old) (stand_of log.new old.new new.new)) }
     ensures source { IfOk result (λ close. source_failed close ≡ false) }
 {
-    let Reading { begun, events } = reading;
+    let EventReader { begun, events } = reading;
     if begun.is_empty() {
         return Ok(Close::TraceEnded);
     }
@@ -201,7 +201,7 @@ fn compare_over<R: Source>(
     ensures source { IfOk result (λ close. R.failures trace.new
         ≡ counted (source_failed close) (R.failures trace.old)) }
 {
-    let mut reading = Reading {
+    let mut reading = EventReader {
         begun: Line::new(),
         events: Events::new(),
     };
