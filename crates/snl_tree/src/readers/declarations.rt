@@ -183,7 +183,7 @@ pub fn declarator_of<'a, 't>(
 {
     let sizes = sizes(alloc, cursor, depth)?;
     let initial = initial(alloc, cursor, depth)?;
-    boxed_declarator(alloc, name, sizes, initial)
+    boxed_declarator(&alloc, name, sizes, initial)
 }
 
 /// Reads a declared name with all that belongs to it.
@@ -283,5 +283,5 @@ pub fn declaration<'a, 't>(
     let type_name = type_name(cursor)?;
     let names = declarators(alloc, cursor, depth)?;
     sign(cursor, Kind::Semicolon)?;
-    boxed_declaration(alloc, type_name, names)
+    boxed_declaration(&alloc, type_name, names)
 }

@@ -53,7 +53,7 @@ fn place<'a, 't>(
 {
     let name = token(cursor, Kind::Name)?;
     let subscript = subscript(alloc, cursor, depth)?;
-    boxed_place(alloc, name, subscript)
+    boxed_place(&alloc, name, subscript)
 }
 
 /// Reads a comma and the token of a kind after it.

@@ -57,7 +57,7 @@ fn stepped<'a, 't>(
         return Ok(primary);
     }
     let step = operator(cursor, STEP)?;
-    boxed_postfix(alloc, primary, step)
+    boxed_postfix(&alloc, primary, step)
 }
 
 /// Reads what holds together so tightly, from [`UNARY`] to [`COMMA`]: a whole expression is the last.
@@ -100,7 +100,7 @@ fn expression<'a, 't>(
 {
     let first = assignment(alloc, cursor, depth)?;
     let terms = terms(alloc, cursor, depth, COMMA)?;
-    chained(alloc, first, terms)
+    chained(&alloc, first, terms)
 }
 
 /// Reads the binary operators after a tree with their operands: those that are looser than what the tree
@@ -126,7 +126,7 @@ fn climb<'a, 't>(
         return Ok(first);
     }
     let terms = terms(alloc, cursor, depth, here)?;
-    let chain = chained(alloc, first, terms)?;
+    let chain = chained(&alloc, first, terms)?;
     climb(alloc, cursor, depth, chain, here, looseness)
 }
 
@@ -189,7 +189,7 @@ fn assignment<'a, 't>(
     }
     let operator = open_operator(cursor, ASSIGNMENT, depth)?;
     let value = assignment(alloc, cursor, depth - 1)?;
-    boxed_assignment(alloc, target, operator, value)
+    boxed_assignment(&alloc, target, operator, value)
 }
 
 /// Reads a conditional, or what may stand in its place.
@@ -211,7 +211,7 @@ fn conditional<'a, 't>(
     let yes = level(alloc, cursor, depth - 1, COMMA)?;
     sign(cursor, Kind::Colon)?;
     let no = conditional(alloc, cursor, depth - 1)?;
-    boxed_conditional(alloc, condition, yes, no)
+    boxed_conditional(&alloc, condition, yes, no)
 }
 
 /// Reads prefix operators and what they stand before.
@@ -231,7 +231,7 @@ fn unary<'a, 't>(
     }
     let operator = open_prefix(cursor, depth)?;
     let operand = unary(alloc, cursor, depth - 1)?;
-    boxed_prefix(alloc, operator, operand)
+    boxed_prefix(&alloc, operator, operand)
 }
 
 /// Reads a constant, an expression in parentheses, or what begins with a name.
@@ -247,7 +247,7 @@ fn primary<'a, 't>(
 {
     if at_constant(cursor) {
         let token = constant(cursor)?;
-        return boxed_constant(alloc, token);
+        return boxed_constant(&alloc, token);
     }
     if at(cursor, Kind::OpenParenthesis) {
         return parenthesized(alloc, cursor, depth);
@@ -269,7 +269,7 @@ fn parenthesized<'a, 't>(
     open_sign(cursor, Kind::OpenParenthesis, depth)?;
     let inner = level(alloc, cursor, depth - 1, COMMA)?;
     sign(cursor, Kind::CloseParenthesis)?;
-    boxed_parenthesized(alloc, inner)
+    boxed_parenthesized(&alloc, inner)
 }
 
 /// Reads a name, with a subscript or a call's arguments after it.
@@ -290,7 +290,7 @@ fn named<'a, 't>(
     if at(cursor, Kind::OpenParenthesis) {
         return call(alloc, cursor, depth, name);
     }
-    boxed_name(alloc, name)
+    boxed_name(&alloc, name)
 }
 
 /// Reads the subscript after a name.
@@ -308,7 +308,7 @@ fn element<'a, 't>(
     let bracket = open_token(cursor, Kind::OpenBracket, depth)?;
     let index = level(alloc, cursor, depth - 1, COMMA)?;
     sign(cursor, Kind::CloseBracket)?;
-    boxed_element(alloc, name, bracket, index)
+    boxed_element(&alloc, name, bracket, index)
 }
 
 /// Reads the arguments after the name of a call, in their parentheses.
@@ -326,7 +326,7 @@ fn call<'a, 't>(
     open_sign(cursor, Kind::OpenParenthesis, depth)?;
     let all = arguments(alloc, cursor, depth - 1)?;
     sign(cursor, Kind::CloseParenthesis)?;
-    boxed_call(alloc, name, all)
+    boxed_call(&alloc, name, all)
 }
 
 /// Reads the arguments of a call, with so much depth left inside of its parentheses.

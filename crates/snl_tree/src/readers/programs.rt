@@ -255,7 +255,7 @@ pub fn program<'a, 't>(
     let exit = exit(alloc, cursor, depth)?;
     let source = source_parts(alloc, lexed)?;
     boxed_program(
-        alloc,
+        &alloc,
         word,
         name,
         macros,

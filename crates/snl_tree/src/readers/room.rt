@@ -6,12 +6,12 @@ ghost use Rattle.snl_tree.specs.declared.readers.cursor.Halt.TheVariants.{Memory
 use crate::readers::cursor::Halt;
 use std::alloc::Global;
 
-/// Puts a part into a box.
-pub fn in_box<T: Drop>(alloc: Global, part: T) -> Result<Box<T>, Halt>
+/// Puts a part into a box. The allocator is lent, so that the lifetimes of the part have the same numbers here as where it is read.
+pub fn in_box<T: Drop>(alloc: &Global, part: T) -> Result<Box<T>, Halt>
     ensures ok { IfOk result (λ b. b.value ≡ part) }
     ensures memory { IfErr result (λ halt. halt ≡ Memory) }
 {
-    let found = Box::new(alloc, part)?;
+    let found = Box::new(*alloc, part)?;
     Ok(found)
 }
 
@@ -25,7 +25,7 @@ pub fn made_of_one<T: Drop, A: Drop, F: FnOnce(A) -> T>(
     ensures ok { IfOk result (λ b. F.post make first b.value) }
     ensures memory { IfErr result (λ halt. halt ≡ Memory) }
 {
-    in_box(alloc, make(first))
+    in_box(&alloc, make(first))
 }
 
 /// Puts into a box what a function makes of two parts.
@@ -39,7 +39,7 @@ pub fn made_of_two<T: Drop, A: Drop, B: Drop, F: FnOnce(A, B) -> T>(
     ensures ok { IfOk result (λ b. F.post make first second b.value) }
     ensures memory { IfErr result (λ halt. halt ≡ Memory) }
 {
-    in_box(alloc, make(first, second))
+    in_box(&alloc, make(first, second))
 }
 
 /// Puts into a box what a function makes of three parts.
@@ -54,7 +54,7 @@ pub fn made_of_three<T: Drop, A: Drop, B: Drop, C: Drop, F: FnOnce(A, B, C) -> T
     ensures ok { IfOk result (λ b. F.post make first second third b.value) }
     ensures memory { IfErr result (λ halt. halt ≡ Memory) }
 {
-    in_box(alloc, make(first, second, third))
+    in_box(&alloc, make(first, second, third))
 }
 
 /// Puts a part at the end of a row.

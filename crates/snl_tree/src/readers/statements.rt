@@ -121,7 +121,7 @@ fn header<'a, 't>(
     let start = ended(alloc, cursor, limit, Kind::Semicolon)?;
     let condition = ended(alloc, cursor, limit, Kind::Semicolon)?;
     let step = ended(alloc, cursor, limit, Kind::CloseParenthesis)?;
-    boxed_header(alloc, start, condition, step)
+    boxed_header(&alloc, start, condition, step)
 }
 
 /// Reads the declarations at the front of a block.
@@ -152,7 +152,7 @@ fn return_statement<'a, 't>(
 {
     let word = token(cursor, Kind::Return)?;
     let value = ended(alloc, cursor, limit, Kind::Semicolon)?;
-    boxed_return(alloc, word, value)
+    boxed_return(&alloc, word, value)
 }
 
 /// Reads an expression that is a statement.
@@ -181,16 +181,16 @@ fn word_statement<'a, 't>(
 {
     if at(cursor, Kind::Break) {
         let word = ended_word(cursor, Kind::Break)?;
-        return boxed_break(alloc, word);
+        return boxed_break(&alloc, word);
     }
     if at(cursor, Kind::Continue) {
         let word = ended_word(cursor, Kind::Continue)?;
-        return boxed_continue(alloc, word);
+        return boxed_continue(&alloc, word);
     }
     if at(cursor, Kind::State) {
         let word = token(cursor, Kind::State)?;
         let name = ended_word(cursor, Kind::Name)?;
-        return boxed_change(alloc, word, name);
+        return boxed_change(&alloc, word, name);
     }
     if at(cursor, Kind::Return) {
         return return_statement(alloc, cursor, limit);
@@ -246,7 +246,7 @@ pub fn block<'a, 't>(
     let declarations = declarations(alloc, cursor, limit)?;
     let statements = statements(alloc, cursor, limit, depth - 1)?;
     sign(cursor, Kind::CloseBrace)?;
-    boxed_block(alloc, declarations, statements)
+    boxed_block(&alloc, declarations, statements)
 }
 
 /// Reads statements, one after another.

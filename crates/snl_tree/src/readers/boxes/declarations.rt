@@ -13,7 +13,7 @@ use std::alloc::Global;
 /// A declared name with its sizes and what it begins with.
 #[tactic(auto, using(crate::proofs::code::Building::in_a_box))]
 pub fn boxed_declarator<'a>(
-    alloc: Global,
+    alloc: &Global,
     name: Token<'a>,
     sizes: Vec<Box<Expr<'a>>>,
     initial: Option<Initialiser<'a>>,
@@ -35,7 +35,7 @@ pub fn boxed_declarator<'a>(
 /// Declared names of a type.
 #[tactic(auto, using(crate::proofs::code::Building::in_a_box))]
 pub fn boxed_declaration<'a>(
-    alloc: Global,
+    alloc: &Global,
     type_name: TypeName<'a>,
     names: Vec<Declarator<'a>>,
 ) -> Result<Box<Declaration<'a>>, Halt>

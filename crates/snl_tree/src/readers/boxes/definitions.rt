@@ -21,7 +21,7 @@ use std::alloc::Global;
 /// A place with or without a subscript.
 #[tactic(auto, using(crate::proofs::code::Building::in_a_box))]
 pub fn boxed_place<'a>(
-    alloc: Global,
+    alloc: &Global,
     name: Token<'a>,
     subscript: Option<Box<Expr<'a>>>,
 ) -> Result<Box<Place<'a>>, Halt>

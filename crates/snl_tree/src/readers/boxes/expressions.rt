@@ -15,7 +15,7 @@ use std::alloc::Global;
 
 /// A constant.
 #[tactic(auto, using(crate::proofs::code::Building::in_a_box))]
-pub fn boxed_constant<'a>(alloc: Global, token: Token<'a>) -> Result<Box<Expr<'a>>, Halt>
+pub fn boxed_constant<'a>(alloc: &Global, token: Token<'a>) -> Result<Box<Expr<'a>>, Halt>
     ensures { Builds boxed result (kinds.constant token.entry) }
 {
     in_box(alloc, Expr::Constant(token))
@@ -23,7 +23,7 @@ pub fn boxed_constant<'a>(alloc: Global, token: Token<'a>) -> Result<Box<Expr<'a
 
 /// An expression in parentheses.
 #[tactic(auto, using(crate::proofs::code::Building::in_a_box))]
-pub fn boxed_parenthesized<'a>(alloc: Global, inner: Box<Expr<'a>>) -> Result<Box<Expr<'a>>, Halt>
+pub fn boxed_parenthesized<'a>(alloc: &Global, inner: Box<Expr<'a>>) -> Result<Box<Expr<'a>>, Halt>
     ensures { Builds boxed result (kinds.parenthesized (boxed inner.entry)) }
 {
     in_box(alloc, Expr::Parenthesized(inner))
@@ -31,7 +31,7 @@ pub fn boxed_parenthesized<'a>(alloc: Global, inner: Box<Expr<'a>>) -> Result<Bo
 
 /// A name alone.
 #[tactic(auto, using(crate::proofs::code::Building::in_a_box))]
-pub fn boxed_name<'a>(alloc: Global, name: Token<'a>) -> Result<Box<Expr<'a>>, Halt>
+pub fn boxed_name<'a>(alloc: &Global, name: Token<'a>) -> Result<Box<Expr<'a>>, Halt>
     ensures { Builds boxed result (kinds.named name.entry) }
 {
     in_box(alloc, Expr::Named(name))
@@ -40,7 +40,7 @@ pub fn boxed_name<'a>(alloc: Global, name: Token<'a>) -> Result<Box<Expr<'a>>, H
 /// A name with a subscript.
 #[tactic(auto, using(crate::proofs::code::Building::in_a_box))]
 pub fn boxed_element<'a>(
-    alloc: Global,
+    alloc: &Global,
     name: Token<'a>,
     bracket: Token<'a>,
     index: Box<Expr<'a>>,
@@ -58,7 +58,7 @@ pub fn boxed_element<'a>(
 /// A call.
 #[tactic(auto, using(crate::proofs::code::Building::in_a_box))]
 pub fn boxed_call<'a>(
-    alloc: Global,
+    alloc: &Global,
     name: Token<'a>,
     arguments: Vec<Argument<'a>>,
 ) -> Result<Box<Expr<'a>>, Halt>
@@ -70,7 +70,7 @@ pub fn boxed_call<'a>(
 /// A place that is stepped after it is read.
 #[tactic(auto, using(crate::proofs::code::Building::in_a_box))]
 pub fn boxed_postfix<'a>(
-    alloc: Global,
+    alloc: &Global,
     operand: Box<Expr<'a>>,
     operator: Token<'a>,
 ) -> Result<Box<Expr<'a>>, Halt>
@@ -82,7 +82,7 @@ pub fn boxed_postfix<'a>(
 /// A prefix operator and its operand.
 #[tactic(auto, using(crate::proofs::code::Building::in_a_box))]
 pub fn boxed_prefix<'a>(
-    alloc: Global,
+    alloc: &Global,
     operator: Token<'a>,
     operand: Box<Expr<'a>>,
 ) -> Result<Box<Expr<'a>>, Halt>
@@ -94,7 +94,7 @@ pub fn boxed_prefix<'a>(
 /// Operands with the operators of one level between them. With none the first operand stands alone.
 #[tactic(auto, using(crate::proofs::code::Rows::chain_alone, crate::proofs::code::Rows::chain_more))]
 pub fn chained<'a>(
-    alloc: Global,
+    alloc: &Global,
     first: Box<Expr<'a>>,
     terms: Vec<Term<'a>>,
 ) -> Result<Box<Expr<'a>>, Halt>
@@ -109,7 +109,7 @@ pub fn chained<'a>(
 /// Operands with at least one operator of one level between them.
 #[tactic(auto, using(crate::proofs::code::Building::in_a_box))]
 fn boxed_chain<'a>(
-    alloc: Global,
+    alloc: &Global,
     first: Box<Expr<'a>>,
     terms: Vec<Term<'a>>,
 ) -> Result<Box<Expr<'a>>, Halt>
@@ -122,7 +122,7 @@ fn boxed_chain<'a>(
 /// A conditional.
 #[tactic(auto, using(crate::proofs::code::Building::in_a_box))]
 pub fn boxed_conditional<'a>(
-    alloc: Global,
+    alloc: &Global,
     condition: Box<Expr<'a>>,
     yes: Box<Expr<'a>>,
     no: Box<Expr<'a>>,
@@ -136,7 +136,7 @@ pub fn boxed_conditional<'a>(
 /// An assignment.
 #[tactic(auto, using(crate::proofs::code::Building::in_a_box))]
 pub fn boxed_assignment<'a>(
-    alloc: Global,
+    alloc: &Global,
     target: Box<Expr<'a>>,
     operator: Token<'a>,
     value: Box<Expr<'a>>,

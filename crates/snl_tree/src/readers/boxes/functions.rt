@@ -36,6 +36,6 @@ pub fn push_function<'a>(
         parameters,
         body,
     };
-    let found = in_box(alloc, function)?;
+    let found = in_box(&alloc, function)?;
     pushed(row, Def::Function(found))
 }

@@ -136,7 +136,7 @@ pub fn source_parts<'a>(alloc: Global, lexed: &Lexed<'a>) -> Result<SourceParts<
 /// A program in its box, with these parts of its source.
 #[tactic(auto, using(crate::proofs::code::Building::in_a_box))]
 pub fn boxed_program<'a>(
-    alloc: Global,
+    alloc: &Global,
     word: Token<'a>,
     name: Token<'a>,
     macros: Option<Token<'a>>,

@@ -17,7 +17,7 @@ use std::alloc::Global;
 /// The three parts of a `for`.
 #[tactic(auto, using(crate::proofs::code::Building::in_a_box))]
 pub fn boxed_header<'a>(
-    alloc: Global,
+    alloc: &Global,
     start: Option<Box<Expr<'a>>>,
     condition: Option<Box<Expr<'a>>>,
     step: Option<Box<Expr<'a>>>,
@@ -39,7 +39,7 @@ pub fn boxed_header<'a>(
 /// A block.
 #[tactic(auto, using(crate::proofs::code::Building::in_a_box))]
 pub fn boxed_block<'a>(
-    alloc: Global,
+    alloc: &Global,
     declarations: Vec<Declaration<'a>>,
     statements: Vec<Stmt<'a>>,
 ) -> Result<Box<Block<'a>>, Halt>
@@ -71,7 +71,7 @@ pub fn boxed_nested<'a>(alloc: Global, block: Box<Block<'a>>) -> Result<Box<Stmt
 
 /// The empty statement.
 #[tactic(auto, using(crate::proofs::code::Building::in_a_box))]
-pub fn boxed_empty<'a>(alloc: Global) -> Result<Box<Stmt<'a>>, Halt>
+pub fn boxed_empty<'a>(alloc: &Global) -> Result<Box<Stmt<'a>>, Halt>
     ensures { Builds (held statement_view) result kinds.empty }
 {
     in_box(alloc, Stmt::Empty)
@@ -94,7 +94,7 @@ pub fn boxed_expression<'a>(alloc: Global, value: Box<Expr<'a>>) -> Result<Box<S
 
 /// A `break`.
 #[tactic(auto, using(crate::proofs::code::Building::in_a_box))]
-pub fn boxed_break<'a>(alloc: Global, word: Token<'a>) -> Result<Box<Stmt<'a>>, Halt>
+pub fn boxed_break<'a>(alloc: &Global, word: Token<'a>) -> Result<Box<Stmt<'a>>, Halt>
     ensures { Builds (held statement_view) result (kinds.break_loop word.entry) }
 {
     in_box(alloc, Stmt::Break(word))
@@ -102,7 +102,7 @@ pub fn boxed_break<'a>(alloc: Global, word: Token<'a>) -> Result<Box<Stmt<'a>>, 
 
 /// A `continue`.
 #[tactic(auto, using(crate::proofs::code::Building::in_a_box))]
-pub fn boxed_continue<'a>(alloc: Global, word: Token<'a>) -> Result<Box<Stmt<'a>>, Halt>
+pub fn boxed_continue<'a>(alloc: &Global, word: Token<'a>) -> Result<Box<Stmt<'a>>, Halt>
     ensures { Builds (held statement_view) result (kinds.continue_loop word.entry) }
 {
     in_box(alloc, Stmt::Continue(word))
@@ -111,7 +111,7 @@ pub fn boxed_continue<'a>(alloc: Global, word: Token<'a>) -> Result<Box<Stmt<'a>
 /// A state statement.
 #[tactic(auto, using(crate::proofs::code::Building::in_a_box))]
 pub fn boxed_change<'a>(
-    alloc: Global,
+    alloc: &Global,
     word: Token<'a>,
     name: Token<'a>,
 ) -> Result<Box<Stmt<'a>>, Halt>
@@ -123,7 +123,7 @@ pub fn boxed_change<'a>(
 /// A `return`, with its value if it has one.
 #[tactic(auto, using(crate::proofs::code::Building::in_a_box))]
 pub fn boxed_return<'a>(
-    alloc: Global,
+    alloc: &Global,
     word: Token<'a>,
     value: Option<Box<Expr<'a>>>,
 ) -> Result<Box<Stmt<'a>>, Halt>
