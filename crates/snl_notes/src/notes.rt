@@ -11,9 +11,9 @@ use snl_text::{LexFault, Lexed, lex};
 use snl_tree::{ParseFault, parse};
 use std::alloc::{AllocError, Global};
 
-/// The messages about a program.
+/// The messages about a program. The allocator is lent, so that the program has the same number among the lifetimes as where it is read.
 fn messages_of(
-    alloc: Global,
+    alloc: &Global,
     program: Program,
     given: Options,
 ) -> Result<Vec<Message>, AllocError> {
@@ -24,6 +24,18 @@ fn messages_of(
     Ok(messages)
 }
 
+/// The messages about the program that tokens are, or why they are none.
+fn messages_in(
+    alloc: Global,
+    lexed: &Lexed,
+    given: Options,
+) -> Result<Result<Vec<Message>, ParseFault>, AllocError> {
+    match parse(alloc, lexed) {
+        Ok(program) => Ok(Ok(messages_of(&alloc, program, given)?)),
+        Err(fault) => Ok(Err(fault)),
+    }
+}
+
 /// Adds the notes on tokens.
 fn push_notes(
     out: &mut Vec<u8>,
@@ -31,11 +43,8 @@ fn push_notes(
     lexed: &Lexed,
     given: Options,
 ) -> Result<(), AllocError> {
-    match parse(sheet.alloc, lexed) {
-        Ok(program) => {
-            let messages = messages_of(sheet.alloc, program, given)?;
-            push_messages(out, sheet, lexed.tokens.as_slice(), messages.as_slice())
-        }
+    match messages_in(sheet.alloc, lexed, given)? {
+        Ok(messages) => { push_messages(out, sheet, lexed.tokens.as_slice(), messages.as_slice()) }
         Err(ParseFault::Memory) => Err(AllocError),
         Err(ParseFault::Unexpected(at)) => push_refused(out, sheet, lexed, at),
         Err(ParseFault::TooDeep(at)) => push_too_deep(out, sheet, lexed, at),
