@@ -33,7 +33,7 @@ fn push_expression<'a>(
 {
     match expression {
         Expr::Constant(_) => Ok(()),
-        Expr::Named(name) => push_name(*name, role, found),
+        Expr::Named(name) => push_name(found, *name, role),
         Expr::Parenthesized(part) => push_expression(part, role.in_parentheses(), uses, found),
         Expr::Element { name, index, .. } => {
             push_element(index, *name, role, uses, found)?;
@@ -117,7 +117,7 @@ fn push_terms<'a>(
         let operator = term.operator;
         let operand: &Expr<'a> = &term.operand;
         let right = worth_of(operand, uses);
-        push_faulting(operator, faults_between(operator.kind, left, right), found)?;
+        push_faulting(found, operator, faults_between(operator.kind, left, right))?;
         push_expression(operand, Role::Value, uses, found)?;
         left = joined(operator.kind, left, right);
     }

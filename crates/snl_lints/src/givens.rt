@@ -28,8 +28,8 @@ pub fn push_element<'a>(
         ++ (spec.at_name role name.entry
         ++ spec.at_subscript name.entry (worth_of (declared_at uses.now) (view index.now)))) }
 {
-    push_name(name, role, found)?;
-    push_subscript(name, worth_of(index, uses), found)
+    push_name(found, name, role)?;
+    push_subscript(found, name, worth_of(index, uses))
 }
 
 /// Adds a prefix operator, where it faults by its operand. Fails only where memory ends.
@@ -44,7 +44,7 @@ pub fn push_prefix<'a>(
         (worth_of (declared_at uses.now) (view operand.now))) operator.entry) }
 {
     let is_faulting = faults_before(operator.kind, worth_of(operand, uses));
-    push_faulting(operator, is_faulting, found)
+    push_faulting(found, operator, is_faulting)
 }
 
 /// Adds the constant that an assignment gives to its target, where it does. Fails only where memory ends.
@@ -76,6 +76,6 @@ pub fn push_operator<'a>(
         ++ spec.at_assignment role operator.entry)) }
 {
     let is_faulting = faults_assigned(operator.kind, worth_of(value, uses));
-    push_faulting(operator, is_faulting, found)?;
-    push_assignment(operator, role, found)
+    push_faulting(found, operator, is_faulting)?;
+    push_assignment(found, operator, role)
 }

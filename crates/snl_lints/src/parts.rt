@@ -12,7 +12,7 @@ ghost use Rattle.snl_lints.specs.Touches as spec;
 
 use crate::expressions::push_maybe_condition;
 use crate::statements::{push_block, push_declaration, push_maybe_block};
-use crate::touches::{Held, Touch};
+use crate::touches::{Held, Touch, add};
 use snl_names::{Size, UseTable, sign_in_force};
 use snl_resolve::range_of;
 use snl_syntax::{
@@ -32,9 +32,10 @@ fn push_queue<'a>(
         ++ spec.at_queue name.entry (shown flag_view flag.now)) }
 {
     if let Some(_) = flag {
-        found.push(Touch::Flags(name))?;
+        add(found, Touch::Flags(name))
+    } else {
+        Ok(())
     }
-    Ok(())
 }
 
 /// Whether a name of a channel has something between its quotes.
@@ -79,9 +80,10 @@ fn push_assign<'a>(
         ++ spec.at_assign (spec.has_channel (shown channels_view channels.now)) name.entry) }
 {
     if has_channel(channels) {
-        found.push(Touch::Assigns(name))?;
+        add(found, Touch::Assigns(name))
+    } else {
+        Ok(())
     }
-    Ok(())
 }
 
 /// Adds the names of channels.
@@ -89,7 +91,7 @@ fn push_names<'a>(names: &[Token<'a>], found: &mut Vec<Touch<'a>>) -> Result<(),
     ensures { OnOk result (found.new.items ≡ found.old.items ++ map Touch.Names names.now) }
 {
     for name in names {
-        found.push(Touch::Names(*name))?;
+        add(found, Touch::Names(*name))?;
     }
     Ok(())
 }
@@ -105,10 +107,7 @@ fn push_channels<'a>(
     match channels {
         None => Ok(()),
         Some(channels) => match &channels.names {
-            ChannelNames::One(name) => {
-                found.push(Touch::Names(*name))?;
-                Ok(())
-            }
+            ChannelNames::One(name) => add(found, Touch::Names(*name)),
             ChannelNames::List(names) => push_names(names.as_slice(), found),
         },
     }
@@ -147,7 +146,7 @@ fn push_parameters<'a>(
         ++ map spec.at_parameter (map parameter_view parameters.now)) }
 {
     for parameter in parameters {
-        found.push(Touch::Holds(parameter.name, held_for(parameter)))?;
+        add(found, Touch::Holds(parameter.name, held_for(parameter)))?;
     }
     Ok(())
 }
@@ -175,15 +174,14 @@ fn push_definition<'a>(
         ++ spec.in_definition (declared_at uses.now) (definition_view definition.now)) }
 {
     match definition {
-        Def::Declaration(declaration) => push_declaration(declaration, uses, found)?,
-        Def::Assign(assign) => push_assigned(&assign.channels, assign.place.name, found)?,
-        Def::Monitor(place) => found.push(Touch::Monitors(place.name))?,
-        Def::Sync(sync) => found.push(Touch::Flags(sync.place.name))?,
-        Def::SyncQueue(queue) => push_queue(&queue.flag, queue.place.name, found)?,
-        Def::Function(function) => push_function(function, uses, found)?,
-        Def::EventFlags(_) | Def::Setting(_) => {}
+        Def::Declaration(declaration) => push_declaration(declaration, uses, found),
+        Def::Assign(assign) => push_assigned(&assign.channels, assign.place.name, found),
+        Def::Monitor(place) => add(found, Touch::Monitors(place.name)),
+        Def::Sync(sync) => add(found, Touch::Flags(sync.place.name)),
+        Def::SyncQueue(queue) => push_queue(&queue.flag, queue.place.name, found),
+        Def::Function(function) => push_function(function, uses, found),
+        Def::EventFlags(_) | Def::Setting(_) => Ok(()),
     }
-    Ok(())
 }
 
 /// Adds what definitions do.
@@ -213,17 +211,17 @@ fn leaves_out(state: &State) -> bool
 
 /// Adds that a clause leads back to its own state, where it does and leaves a block out.
 fn push_target<'a>(
+    found: &mut Vec<Touch<'a>>,
     target: Target<'a>,
     leaving: bool,
-    own: Token,
-    found: &mut Vec<Touch<'a>>,
+    own: Token<'a>,
 ) -> Result<(), AllocError>
     ensures { OnOk result (found.new.items ≡ found.old.items
         ++ spec.at_target leaving own.entry (target_view target.entry)) }
 {
     if let Target::State(name) = target {
         if leaving && own.text == name.text {
-            found.push(Touch::Returns(name))?;
+            return add(found, Touch::Returns(name));
         }
     }
     Ok(())
@@ -242,7 +240,7 @@ fn push_clause<'a>(
 {
     push_maybe_condition(&clause.condition, uses, found)?;
     push_block(&clause.block, uses, found)?;
-    push_target(clause.target, leaving, own, found)
+    push_target(found, clause.target, leaving, own)
 }
 
 /// Adds what clauses do.

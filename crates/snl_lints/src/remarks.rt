@@ -15,7 +15,7 @@ use crate::constants::{lacks_number, misses_element};
 use crate::facts::{Fact, Facts};
 use crate::parts::touches_of;
 use crate::tables::{Tables, note_all};
-use crate::touches::Touch;
+use crate::touches::{Touch, add};
 use snl_channels::{MacroTable, Macros};
 use snl_names::formats::unquoted;
 use snl_names::{Query, UseTable};
@@ -75,18 +75,19 @@ struct Sources<'s, 'm> {
 
 /// Adds a remark at a token, where a test holds.
 fn push_when<'a>(
+    remarks: &mut Vec<Remark<'a>>,
     token: Token<'a>,
     lint: Lint,
     test: bool,
-    remarks: &mut Vec<Remark<'a>>,
 ) -> Result<(), AllocError>
     ensures { OnOk result (remarks.new.items
         ≡ remarks.old.items ++ spec.when test lint token.entry) }
 {
     if test {
-        remarks.push(Remark { lint, token })?;
+        add(remarks, Remark { lint, token })
+    } else {
+        Ok(())
     }
-    Ok(())
 }
 
 /// Whether something brings a variable the value of its channel.
@@ -148,18 +149,18 @@ fn push_declared<'a>(
         ≡ remarks.old.items ++ spec.at_declared (known_by_tables tables.now) token.entry) }
 {
     let variable = token.pos.offset;
-    push_when(token, Lint::Shared, tables.is_shared(variable), remarks)?;
+    push_when(remarks, token, Lint::Shared, tables.is_shared(variable))?;
     push_when(
+        remarks,
         token,
         Lint::Stale,
         is_stale(&tables.facts, variable),
-        remarks,
     )?;
     push_when(
+        remarks,
         token,
         Lint::Unput,
         is_unput(&tables.facts, variable),
-        remarks,
     )
 }
 
@@ -174,7 +175,7 @@ fn push_monitored<'a>(
         ++ spec.at_monitored (declared_at uses.now) (known_in facts.now) token.entry) }
 {
     let test = is_unread(facts, uses.declared(token.pos.offset));
-    push_when(token, Lint::Unread, test, remarks)
+    push_when(remarks, token, Lint::Unread, test)
 }
 
 /// Adds what is remarked at the name in a call.
@@ -191,7 +192,7 @@ fn push_asked<'a>(
     match query {
         Query::PvPutComplete => {
             let test = is_answered(facts, uses.declared(token.pos.offset));
-            push_when(token, Lint::Answered, test, remarks)
+            push_when(remarks, token, Lint::Answered, test)
         }
         _ => Ok(()),
     }
@@ -230,10 +231,10 @@ fn push_channel<'a>(
         ++ spec.at_channel (given_in macros.now) token.entry) }
 {
     let name = unquoted(token.text);
-    push_when(token, Lint::Undefined, has_undefined(name, macros), remarks)?;
-    push_when(token, Lint::Unclosed, is_open(name), remarks)?;
+    push_when(remarks, token, Lint::Undefined, has_undefined(name, macros))?;
+    push_when(remarks, token, Lint::Unclosed, is_open(name))?;
     let is_unspoken = is_unspoken_after(alloc, name, macros)?;
-    push_when(token, Lint::Unspoken, is_unspoken, remarks)
+    push_when(remarks, token, Lint::Unspoken, is_unspoken)
 }
 
 /// Adds what is remarked at one touch of a variable.
@@ -252,11 +253,11 @@ fn push_variable<'a>(
         Touch::Asks(query, name) => push_asked(*name, *query, &tables.facts, uses, remarks),
         Touch::Stores(name, number) => {
             let test = is_unfitting(tables, uses.declared(name.pos.offset), *number);
-            push_when(*name, Lint::Unfitting, test, remarks)
+            push_when(remarks, *name, Lint::Unfitting, test)
         }
         Touch::Picks(name, number) => {
             let test = is_missing(tables, uses.declared(name.pos.offset), *number);
-            push_when(*name, Lint::Missing, test, remarks)
+            push_when(remarks, *name, Lint::Missing, test)
         }
         _ => Ok(()),
     }
@@ -275,11 +276,11 @@ fn push_remarks_at<'a>(
 {
     match touch {
         Touch::Names(name) => push_channel(sources.alloc, *name, sources.macros, remarks),
-        Touch::Equals(operator) => push_when(*operator, Lint::Equals, true, remarks),
-        Touch::Comma(operator) => push_when(*operator, Lint::Comma, true, remarks),
-        Touch::Returns(name) => push_when(*name, Lint::Itself, true, remarks),
-        Touch::Faults(operator) => push_when(*operator, Lint::Faulting, true, remarks),
-        Touch::Lacks(name) => push_when(*name, Lint::Unfitting, true, remarks),
+        Touch::Equals(operator) => push_when(remarks, *operator, Lint::Equals, true),
+        Touch::Comma(operator) => push_when(remarks, *operator, Lint::Comma, true),
+        Touch::Returns(name) => push_when(remarks, *name, Lint::Itself, true),
+        Touch::Faults(operator) => push_when(remarks, *operator, Lint::Faulting, true),
+        Touch::Lacks(name) => push_when(remarks, *name, Lint::Unfitting, true),
         _ => push_variable(touch, tables, sources.uses, remarks),
     }
 }

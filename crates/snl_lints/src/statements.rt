@@ -15,7 +15,7 @@ use crate::constants::{lacks_initial, size_of};
 use crate::expressions::{
     push_condition, push_if_there, push_maybe_condition, push_value, push_values,
 };
-use crate::touches::{Held, Touch, push_lacking};
+use crate::touches::{Held, Touch, add, push_lacking};
 use snl_names::UseTable;
 use snl_resolve::range_of;
 use snl_syntax::{Block, Declaration, Declarator, Header, Initialiser, Stmt, TypeName};
@@ -42,16 +42,15 @@ fn push_initialiser<'a>(
 
 /// Adds that a variable is declared, and what it can hold.
 fn push_declared<'a>(
+    found: &mut Vec<Touch<'a>>,
     name: Token<'a>,
     holding: Held,
-    found: &mut Vec<Touch<'a>>,
 ) -> Result<(), AllocError>
     ensures { OnOk result (found.new.items ≡ found.old.items
         ++ (Touch.Declares name.entry ∷ Touch.Holds name.entry holding ∷ [])) }
 {
-    found.push(Touch::Declares(name))?;
-    found.push(Touch::Holds(name, holding))?;
-    Ok(())
+    add(found, Touch::Declares(name))?;
+    add(found, Touch::Holds(name, holding))
 }
 
 /// Adds what a variable begins with, and whether its type lacks that.
@@ -68,14 +67,14 @@ fn push_initial<'a>(
         ++ spec.if_there (spec.in_initialiser (declared_at uses.now))
         (shown initialiser_view initial.now))) }
 {
-    push_lacking(name, lacks_initial(initial, range, uses), found)?;
+    push_lacking(found, name, lacks_initial(initial, range, uses))?;
     push_initialiser(initial, uses, found)
 }
 
 /// Adds that a variable of a type is declared, and what its initialiser does.
 fn push_declarator<'a>(
     declarator: &Declarator<'a>,
-    type_name: TypeName,
+    type_name: TypeName<'a>,
     uses: &UseTable,
     found: &mut Vec<Touch<'a>>,
 ) -> Result<(), AllocError>
@@ -88,7 +87,7 @@ fn push_declarator<'a>(
         range,
         size: size_of(declarator.sizes.as_slice(), uses),
     };
-    push_declared(declarator.name, holding, found)?;
+    push_declared(found, declarator.name, holding)?;
     push_initial(&declarator.initial, declarator.name, range, uses, found)
 }
 

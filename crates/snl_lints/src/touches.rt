@@ -1,6 +1,6 @@
 //! What a piece of a program does: with a variable, and by constants.
 
-ghost use Rattle.std.specs.Prelude.{◌≡◌, ◌∷◌, ◌++◌, map, OnOk};
+ghost use Rattle.std.specs.Prelude.{◌≡◌, [], ◌∷◌, ◌++◌, map, OnOk};
 ghost use Rattle.snl_syntax.specs.view.Expressions.{view, pair_of, list_before};
 ghost use Rattle.snl_syntax.specs.view.Lists.{term_list};
 ghost use Rattle.snl_syntax.specs.Expressions.{no_arguments};
@@ -74,11 +74,19 @@ pub enum Role {
     Asked(Query),
 }
 
+/// Puts a part at the end of a row. Of any type, since what `push` answers holds the part once more. Fails only where memory ends.
+pub fn add<T: Copy>(row: &mut Vec<T>, part: T) -> Result<(), AllocError>
+    ensures { OnOk result (row.new.items ≡ row.old.items ++ part ∷ []) }
+{
+    row.push(part)?;
+    Ok(())
+}
+
 /// Adds what a name does that stands for this. Fails only where memory ends.
 pub fn push_name<'a>(
+    found: &mut Vec<Touch<'a>>,
     name: Token<'a>,
     role: Role,
-    found: &mut Vec<Touch<'a>>,
 ) -> Result<(), AllocError>
     ensures { OnOk result (found.new.items ≡ found.old.items ++ spec.at_name role name.entry) }
 {
@@ -88,68 +96,71 @@ pub fn push_name<'a>(
         Role::Put(is_async) => Touch::Puts(name, is_async),
         Role::Asked(query) => Touch::Asks(query, name),
     };
-    found.push(touch)?;
-    Ok(())
+    add(found, touch)
 }
 
 /// Adds that a condition is an assignment, where it is one. Fails only where memory ends.
 pub fn push_assignment<'a>(
+    found: &mut Vec<Touch<'a>>,
     operator: Token<'a>,
     role: Role,
-    found: &mut Vec<Touch<'a>>,
 ) -> Result<(), AllocError>
     ensures { OnOk result (found.new.items ≡ found.old.items
         ++ spec.at_assignment role operator.entry) }
 {
     if let Role::Condition = role {
-        found.push(Touch::Equals(operator))?;
+        add(found, Touch::Equals(operator))
+    } else {
+        Ok(())
     }
-    Ok(())
 }
 
 /// Adds an operator that faults by its constants, where it does. Fails only where memory ends.
 pub fn push_faulting<'a>(
+    found: &mut Vec<Touch<'a>>,
     operator: Token<'a>,
     is_faulting: bool,
-    found: &mut Vec<Touch<'a>>,
 ) -> Result<(), AllocError>
     ensures { OnOk result (found.new.items ≡ found.old.items
         ++ spec.when_faulting is_faulting operator.entry) }
 {
     if is_faulting {
-        found.push(Touch::Faults(operator))?;
+        add(found, Touch::Faults(operator))
+    } else {
+        Ok(())
     }
-    Ok(())
 }
 
 /// Adds a variable whose type lacks what it begins with, where it does. Fails only where memory ends.
 pub fn push_lacking<'a>(
+    found: &mut Vec<Touch<'a>>,
     name: Token<'a>,
     is_lacking: bool,
-    found: &mut Vec<Touch<'a>>,
 ) -> Result<(), AllocError>
     ensures { OnOk result (found.new.items ≡ found.old.items
         ++ spec.when_lacking is_lacking name.entry) }
 {
     if is_lacking {
-        found.push(Touch::Lacks(name))?;
+        add(found, Touch::Lacks(name))
+    } else {
+        Ok(())
     }
-    Ok(())
 }
 
 /// Adds a subscript that is constant. Fails only where memory ends.
 pub fn push_subscript<'a>(
+    found: &mut Vec<Touch<'a>>,
     name: Token<'a>,
     subscript: Constant,
-    found: &mut Vec<Touch<'a>>,
 ) -> Result<(), AllocError>
     ensures { OnOk result (found.new.items ≡ found.old.items
         ++ spec.at_subscript name.entry subscript) }
 {
     if let Constant::Worth(number) = subscript {
-        found.push(Touch::Picks(name, number))?;
+        add(found, Touch::Picks(name, number))
+    } else {
+        Ok(())
     }
-    Ok(())
 }
 
 /// The variable that an assignment sets, by its name.
@@ -165,17 +176,18 @@ fn target_name<'a>(target: &Expr<'a>) -> Option<Token<'a>>
 
 /// Adds a number that is given to a variable.
 fn push_number<'a>(
+    found: &mut Vec<Touch<'a>>,
     name: Option<Token<'a>>,
     number: i64,
-    found: &mut Vec<Touch<'a>>,
 ) -> Result<(), AllocError>
     ensures { OnOk result (found.new.items ≡ found.old.items
         ++ spec.stored_in name.entry number) }
 {
     if let Some(name) = name {
-        found.push(Touch::Stores(name, number))?;
+        add(found, Touch::Stores(name, number))
+    } else {
+        Ok(())
     }
-    Ok(())
 }
 
 /// Adds a constant that `=` gives to a variable. Fails only where memory ends.
@@ -190,20 +202,21 @@ pub fn push_stored<'a>(
 {
     match (operator, value) {
         (Kind::Equal, Constant::Worth(number)) => {
-            push_number(target_name(target), number, found)
+            push_number(found, target_name(target), number)
         }
         _ => Ok(()),
     }
 }
 
 /// Adds a comma, if the operator is one.
-fn push_if_comma<'a>(operator: Token<'a>, found: &mut Vec<Touch<'a>>) -> Result<(), AllocError>
+fn push_if_comma<'a>(found: &mut Vec<Touch<'a>>, operator: Token<'a>) -> Result<(), AllocError>
     ensures { OnOk result (found.new.items ≡ found.old.items ++ spec.when_comma operator.entry) }
 {
     if let Kind::Comma = operator.kind {
-        found.push(Touch::Comma(operator))?;
+        add(found, Touch::Comma(operator))
+    } else {
+        Ok(())
     }
-    Ok(())
 }
 
 /// Adds the first operator of a chain, if it is a comma.
@@ -212,7 +225,7 @@ fn push_first_comma<'a>(terms: &[Term<'a>], found: &mut Vec<Touch<'a>>) -> Resul
         ++ spec.first_comma (term_list (map pair_of terms.now))) }
 {
     match terms {
-        [first, ..] => push_if_comma(first.operator, found),
+        [first, ..] => push_if_comma(found, first.operator),
         [] => Ok(()),
     }
 }
@@ -233,7 +246,7 @@ pub fn push_comma<'a>(
 }
 
 /// Whether the word `ASYNC` stands behind the first argument.
-fn is_async_behind(first: &Argument, behind: &[Argument]) -> bool
+fn is_async_behind<'a>(first: &Argument<'a>, behind: &[Argument<'a>]) -> bool
     ensures { result ≡ spec.is_async_put (list_before (first.now ∷ behind.now) no_arguments) }
 {
     match first {
