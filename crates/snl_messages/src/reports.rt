@@ -28,12 +28,12 @@ use std::alloc::{AllocError, Global};
 
 /// All that is found of a program but for the limits of words, from the rules that are broken and
 /// the names of the states that cannot be reached.
-fn gathered(
+fn gathered<'a>(
     alloc: Global,
-    program: &Program,
+    program: &Program<'a>,
     options: Options,
-    broken: &[Broken],
-    names: &[Token],
+    broken: &[Broken<'a>],
+    names: &[Token<'a>],
 ) -> Result<Vec<Entry>, AllocError>
     ensures { IfOk result (λ entries. map finding_in entries.items
         ≡ found broken.now names.now program.now.embedded.items program.now.beyond
@@ -50,10 +50,10 @@ fn gathered(
 }
 
 /// All that is found of a program but for the limits of words.
-fn findings(
+fn findings<'a>(
     alloc: Global,
-    program: &Program,
-    sites: &[Site],
+    program: &Program<'a>,
+    sites: &[Site<'a>],
     options: Options,
 ) -> Result<Vec<Entry>, AllocError>
     requires { sites.now ≡ spec.sites (program_view program.now) }
@@ -68,10 +68,10 @@ fn findings(
 }
 
 /// Notes the limits of words that a program passes.
-fn note_limits(
+fn note_limits<'a>(
     alloc: Global,
-    program: &Program,
-    sites: &[Site],
+    program: &Program<'a>,
+    sites: &[Site<'a>],
     entries: &mut Vec<Entry>,
 ) -> Result<(), AllocError>
     requires { sites.now ≡ spec.sites (program_view program.now) }
@@ -87,10 +87,10 @@ fn note_limits(
 }
 
 /// All that is found of a program.
-fn all_findings(
+fn all_findings<'a>(
     alloc: Global,
-    program: &Program,
-    sites: &[Site],
+    program: &Program<'a>,
+    sites: &[Site<'a>],
     options: Options,
 ) -> Result<Vec<Entry>, AllocError>
     requires { sites.now ≡ spec.sites (program_view program.now) }
@@ -122,10 +122,10 @@ fn given_in_order(
 }
 
 /// All messages of a program that has these sites.
-fn messages_by(
+fn messages_by<'a>(
     alloc: Global,
-    program: &Program,
-    sites: &[Site],
+    program: &Program<'a>,
+    sites: &[Site<'a>],
     given: Options,
 ) -> Result<Vec<Message>, AllocError>
     requires { sites.now ≡ spec.sites (program_view program.now) }
@@ -144,9 +144,9 @@ fn messages_by(
 /// before warnings, and then by number; one for each place and number (SNL Reference; Compiling SNL
 /// Programs, "Options"). With them comes what its names mean, since one walk over the program serves
 /// both. The only error is that memory ends.
-pub fn messages_and_uses(
+pub fn messages_and_uses<'a>(
     alloc: Global,
-    program: &Program,
+    program: &Program<'a>,
     given: Options,
 ) -> Result<(Vec<Message>, UseTable), AllocError>
     ensures exactly { IfOk result (λ told. (m : Said) → Contains (map said told.0.items) m
