@@ -115,14 +115,34 @@ MACROS are NAME=VALUE,..; the trace comes on standard input
 
 snlrun 0.9.0";
 
+/// What stands at the top of `snc --help`. A function of its own gives each long text: where one is borrowed, each point of a proof lists it.
+fn snc_about() -> &'static str {
+    SNC_ABOUT
+}
+
+/// What stands at the end of `snc --help`.
+fn snc_more() -> &'static str {
+    SNC_MORE
+}
+
+/// What stands at the top of `snlrun --help`.
+fn snlrun_about() -> &'static str {
+    SNLRUN_ABOUT
+}
+
+/// What stands at the end of `snlrun --help`.
+fn snlrun_more() -> &'static str {
+    SNLRUN_MORE
+}
+
 /// The command of `snc`.
 pub(crate) fn snc_command<'a>(alloc: Global) -> Result<Command<'a>, AllocError>
     ensures { IfOk result (λ c. app_of c ≡ spec.snc_app) }
 {
     bare_command(alloc, "snc")
         .override_usage("snc [±X..] [--tables] FILE")
-        .about(SNC_ABOUT)
-        .after_help(SNC_MORE)
+        .about(snc_about())
+        .after_help(snc_more())
         .arg(file_argument(alloc))?
         .arg(tables_argument(alloc))?
         .arg(help_argument(alloc))
@@ -134,8 +154,8 @@ pub(crate) fn snlrun_command<'a>(alloc: Global) -> Result<Command<'a>, AllocErro
 {
     bare_command(alloc, "snlrun")
         .override_usage("snlrun [±X..] [--budget N] FILE [MACROS]")
-        .about(SNLRUN_ABOUT)
-        .after_help(SNLRUN_MORE)
+        .about(snlrun_about())
+        .after_help(snlrun_more())
         .arg(file_argument(alloc))?
         .arg(macros_argument(alloc))?
         .arg(budget_argument(alloc))?

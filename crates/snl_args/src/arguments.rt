@@ -193,7 +193,7 @@ fn help_argument<'a>(alloc: Global) -> Arg<'a> {
 }
 
 /// The command of a word with these texts, without arguments.
-fn bare<'a>(alloc: Global, texts: &Texts) -> Command<'a> {
+fn bare<'a>(alloc: Global, texts: &'a Texts) -> Command<'a> {
     Command::new(alloc, "snl")
         .no_binary_name(true)
         .disable_help_flag(true)
@@ -202,14 +202,20 @@ fn bare<'a>(alloc: Global, texts: &Texts) -> Command<'a> {
         .after_help(texts.more)
 }
 
+/// Puts a value at the end of a row. It stands first, so that its lifetime has the same number here as where it is made.
+fn added<T: Drop>(value: T, row: &mut Vec<T>) -> Result<(), AllocError> {
+    row.push(value)?;
+    Ok(())
+}
+
 /// Adds arguments as `clap` has them.
 fn push_all<'a>(
     alloc: Global,
-    arguments: &[Argument],
+    arguments: &'a [Argument],
     all: &mut Vec<Arg<'a>>,
 ) -> Result<(), AllocError> {
     for one in arguments {
-        all.push(made_argument(alloc, *one))?;
+        added(made_argument(alloc, *one), all)?;
     }
     Ok(())
 }
@@ -217,13 +223,13 @@ fn push_all<'a>(
 /// The command of a word with these texts, these lists of arguments and `--help`.
 pub(crate) fn command_of<'a>(
     alloc: Global,
-    texts: &Texts,
-    arguments: &[&[Argument]],
+    texts: &'a Texts,
+    arguments: &'a [&'a [Argument]],
 ) -> Result<Command<'a>, AllocError> {
     let mut all = Vec::new(alloc);
     for list in arguments {
         push_all(alloc, list, &mut all)?;
     }
-    all.push(help_argument(alloc))?;
+    added(help_argument(alloc), &mut all)?;
     bare(alloc, texts).args(all)
 }

@@ -1,6 +1,7 @@
 //! The forms of a call: what the words behind the first one may be.
 //!
-//! What a form takes is a static. A proof lists what a constant holds at each step of a function that borrows it.
+//! What a form takes is a static. A proof lists what a constant holds at each step of a function that borrows it, and what each static
+//! holds that is borrowed there: so each has a function of its own.
 
 use crate::arguments::{Argument, OF_PROGRAM, OF_RUNS, OVER_TRACE, command_of};
 use crate::ats::{OF_AT, OF_AT_EVENT, asks_event};
@@ -167,31 +168,106 @@ pub(crate) fn form_of(name: &str, words: &[&str]) -> Option<Form> {
     })
 }
 
+/// What `waits` takes.
+fn waits_synopsis() -> &'static Synopsis {
+    &WAITS
+}
+
+/// What `run` takes.
+fn run_synopsis() -> &'static Synopsis {
+    &RUN
+}
+
+/// What `cover` takes.
+fn cover_synopsis() -> &'static Synopsis {
+    &COVER
+}
+
+/// What `graph` takes.
+fn graph_synopsis() -> &'static Synopsis {
+    &GRAPH
+}
+
+/// What `search` takes.
+fn search_synopsis() -> &'static Synopsis {
+    &SEARCH
+}
+
+/// What `search --join` takes.
+fn join_synopsis() -> &'static Synopsis {
+    &JOIN
+}
+
+/// What `same` takes.
+fn same_synopsis() -> &'static Synopsis {
+    &SAME
+}
+
+/// What `same --search` takes.
+fn same_search_synopsis() -> &'static Synopsis {
+    &SAME_SEARCH
+}
+
+/// What `at` takes.
+fn at_synopsis() -> &'static Synopsis {
+    &AT
+}
+
+/// What `at --trip` and `at --into` take.
+fn at_event_synopsis() -> &'static Synopsis {
+    &AT_EVENT
+}
+
+/// What `tree` takes.
+fn tree_synopsis() -> &'static Synopsis {
+    &TREE
+}
+
+/// What `sets` takes.
+fn sets_synopsis() -> &'static Synopsis {
+    &SETS
+}
+
+/// What `check` takes.
+fn check_synopsis() -> &'static Synopsis {
+    &CHECK
+}
+
+/// What `trace` takes.
+fn trace_synopsis() -> &'static Synopsis {
+    &TRACE
+}
+
+/// What `test` takes.
+fn test_synopsis() -> &'static Synopsis {
+    &TEST
+}
+
 /// What a form takes.
 fn synopsis_of(form: Form) -> &'static Synopsis {
     match form {
-        Form::Waits => &WAITS,
-        Form::Run => &RUN,
-        Form::Cover => &COVER,
-        Form::Graph => &GRAPH,
-        Form::Search => &SEARCH,
-        Form::Join => &JOIN,
-        Form::Same => &SAME,
-        Form::SameSearch => &SAME_SEARCH,
-        Form::At => &AT,
-        Form::AtEvent => &AT_EVENT,
-        Form::Tree => &TREE,
-        Form::Sets => &SETS,
-        Form::Check => &CHECK,
-        Form::Trace => &TRACE,
-        Form::Test => &TEST,
+        Form::Waits => waits_synopsis(),
+        Form::Run => run_synopsis(),
+        Form::Cover => cover_synopsis(),
+        Form::Graph => graph_synopsis(),
+        Form::Search => search_synopsis(),
+        Form::Join => join_synopsis(),
+        Form::Same => same_synopsis(),
+        Form::SameSearch => same_search_synopsis(),
+        Form::At => at_synopsis(),
+        Form::AtEvent => at_event_synopsis(),
+        Form::Tree => tree_synopsis(),
+        Form::Sets => sets_synopsis(),
+        Form::Check => check_synopsis(),
+        Form::Trace => trace_synopsis(),
+        Form::Test => test_synopsis(),
     }
 }
 
 /// What is found in the words behind those of a form.
 pub(crate) fn found_by<'w>(
     alloc: Global,
-    synopsis: &Synopsis,
+    synopsis: &'w Synopsis,
     words: &'w [&'w str],
 ) -> Result<ArgMatches<'w>, CallFault> {
     let command = command_of(alloc, &synopsis.texts, synopsis.arguments)?;
