@@ -8,7 +8,7 @@ ghost use Rattle.snl_names.specs.Variables.{function_by, shared_variables};
 ghost use Rattle.snl_rules.specs.Counts.{capped};
 ghost use Rattle.snl_rules.specs.Words.{function_words, variable_words};
 
-use crate::words::words_of_variables;
+use crate::words::words_of_row;
 use snl_resolve::{Scopes, push_functions, scope_of};
 use snl_syntax::{Def, Program};
 use std::alloc::{AllocError, Global};
@@ -49,7 +49,7 @@ fn words_of_shared<'a>(alloc: Global, program: &Program<'a>) -> Result<u64, Allo
         &Scopes::Within(&scope, &Scopes::Outside),
         &mut held,
     )?;
-    Ok(words_of_variables(held.as_slice()))
+    Ok(words_of_row(held))
 }
 
 /// The words that the functions of a program take: those of their variables, and one for each function

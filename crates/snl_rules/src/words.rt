@@ -17,7 +17,7 @@ use snl_text::Token;
 use std::alloc::{AllocError, Global};
 
 /// The words of variables, at most 2^64 - 1.
-pub fn words_of_variables<'p, 'a>(held: &'p [CopyVariable<'p, 'a>]) -> u64
+fn words_of_variables<'p, 'a>(held: &'p [CopyVariable<'p, 'a>]) -> u64
     ensures { result ≡ capped (sum_by spec.variable_words (map variable_view held.now)) }
 {
     let mut words: u64 = 0;
@@ -25,6 +25,13 @@ pub fn words_of_variables<'p, 'a>(held: &'p [CopyVariable<'p, 'a>]) -> u64
         words = words.saturating_add(variable.size.elements() as u64);
     }
     words
+}
+
+/// The words of the variables of a row, at most 2^64 - 1. The row is handed over, so that its lifetimes are those with which it was filled.
+pub fn words_of_row<'p, 'a>(held: Vec<CopyVariable<'p, 'a>>) -> u64
+    ensures { result ≡ capped (sum_by spec.variable_words (map variable_view held.entry.items)) }
+{
+    words_of_variables(held.as_slice())
 }
 
 /// What the stores of all state sets have in common.
@@ -43,7 +50,7 @@ fn shared_in<'a>(alloc: Global, program: &Program<'a>) -> Result<Shared<'a>, All
     let mut held = Vec::new(alloc);
     let definitions = program.definitions.as_slice();
     let scope = push_definitions(alloc, definitions, &Scopes::Outside, &mut held)?;
-    let words = words_of_variables(held.as_slice());
+    let words = words_of_row(held);
     Ok(Shared { scope, words })
 }
 
@@ -69,7 +76,7 @@ fn own_words<'a>(
         number,
         &mut held,
     )?;
-    Ok(words_of_variables(held.as_slice()))
+    Ok(words_of_row(held))
 }
 
 /// The words of the store of a state set, at most 2^64 - 1.

@@ -7,8 +7,7 @@ use Rattle.snl_rules.proofs.function_words.words_of_shared.Goals as goal
 
 pub returns : goal.returns
 returns c =
-    c.words_of_variables.ensures
-    ∙ ap (λ l. capped (sum_by variable_words (map variable_view l))) c.as_slice.ensures.value
+    c.words_of_row.ensures
     ∙ ap (λ l. capped (sum_by variable_words l))
     (shared_are c.args.program.now c.as_slice-definitions.result.now c.in_ok-scope.scope (map variable_view c.new-held.result.items) (map variable_view c.push_functions.new.kept.items)
     c.as_slice-definitions.ensures.value c.in_ok-scope.ensures (ap (map variable_view) c.new-held.ensures.items) c.in_ok-push_functions.ensures)
