@@ -27,10 +27,10 @@ fn push_expression<'a>(
 {
     match expression {
         Expr::Constant(_) => Ok(()),
-        Expr::Named(name) => push_name(*name, role, code),
+        Expr::Named(name) => push_name(code, *name, role),
         Expr::Parenthesized(part) => push_expression(part, role, code),
         Expr::Element { name, index, .. } => {
-            push_name(*name, role, code)?;
+            push_name(code, *name, role)?;
             push_expression(index, Role::Value, code)
         }
         Expr::Call(name, arguments) => push_called(arguments.as_slice(), *name, code),
@@ -66,7 +66,7 @@ fn push_called<'a>(
         (call name.entry (list_before arguments.now no_arguments))) }
 {
     let builtin = builtin_of(name.text);
-    push_call(name, builtin, code)?;
+    push_call(code, name, builtin)?;
     push_arguments(arguments, role_in(builtin), code)
 }
 

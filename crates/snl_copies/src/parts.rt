@@ -43,7 +43,7 @@ pub fn push_function<'a>(
 }
 
 /// Adds where a clause leads.
-fn push_target<'a>(target: Target<'a>, code: &mut Vec<Touch<'a>>) -> Result<(), AllocError>
+fn push_target<'a>(code: &mut Vec<Touch<'a>>, target: Target<'a>) -> Result<(), AllocError>
     ensures { OnOk result (code.new.items ≡ code.old.items
         ++ spec.at_target (target_view target.entry)) }
 {
@@ -60,7 +60,7 @@ pub fn push_clause<'a>(clause: &Clause<'a>, code: &mut Vec<Touch<'a>>) -> Result
 {
     push_if_there(&clause.condition, code)?;
     push_block(&clause.block, code)?;
-    push_target(clause.target, code)
+    push_target(code, clause.target)
 }
 
 /// Adds what clauses do.

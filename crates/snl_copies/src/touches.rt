@@ -35,9 +35,9 @@ pub enum Role {
 
 /// Adds what a name does that stands for this. Fails only where memory ends.
 pub fn push_name<'a>(
+    code: &mut Vec<Touch<'a>>,
     name: Token<'a>,
     role: Role,
-    code: &mut Vec<Touch<'a>>,
 ) -> Result<(), AllocError>
     ensures { OnOk result (code.new.items ≡ code.old.items ++ spec.at_name role name.entry) }
 {
@@ -51,9 +51,9 @@ pub fn push_name<'a>(
 
 /// Adds that a function of the program is called, where it is not built in. Fails only where memory ends.
 pub fn push_call<'a>(
+    code: &mut Vec<Touch<'a>>,
     name: Token<'a>,
     builtin: Option<Builtin>,
-    code: &mut Vec<Touch<'a>>,
 ) -> Result<(), AllocError>
     ensures { OnOk result (code.new.items ≡ code.old.items ++ spec.at_call builtin name.entry) }
 {

@@ -76,7 +76,7 @@ fn push_if_there<'a>(
 }
 
 /// Adds the target after a clause's block, if it is a state.
-fn push_after<'a>(target: Target<'a>, names: &mut Vec<Token<'a>>) -> Result<(), AllocError>
+fn push_after<'a>(names: &mut Vec<Token<'a>>, target: Target<'a>) -> Result<(), AllocError>
     ensures { OnOk result (names.new.items ≡ names.old.items
         ++ spec.targets_after (target_view target.entry)) }
 {
@@ -92,7 +92,7 @@ fn push_clause<'a>(clause: &Clause<'a>, names: &mut Vec<Token<'a>>) -> Result<()
         ++ spec.targets_in_clause (clause_view clause.now)) }
 {
     push_block(&clause.block, names)?;
-    push_after(clause.target, names)?;
+    push_after(names, clause.target)?;
     Ok(())
 }
 
