@@ -168,6 +168,26 @@ fn imported_of<R: BufRead + Drop, P: Program + Drop>(
     })
 }
 
+/// Writes all lines of logs up to a time to a sink to which the front of their trace was written. Answers what came of them.
+fn imported_by<R: BufRead + Drop, P: Program + Drop, K: Sink>(
+    alloc: Global,
+    feeds: &mut [Feed<R>],
+    until: u64,
+    importer: &mut Importer<P>,
+    sink: &mut K,
+) -> Result<Imported, ImportError>
+    requires sink { K.failures sink.old < 2 ^ 64 - 1 }
+    requires trace { IsTrace (K.told sink.old)
+        (importer.old.recorder.first, importer.old.recorder.before) }
+    requires taken { TellsTaken (P.taken importer.old.recorder.program) (K.told sink.old) }
+    ensures trace { IfOk result (λ i. IsTrace (K.told sink.new) (i.last, i.counts.written)) }
+    ensures front { OnErr result (IsTraceFront (K.told sink.new)) }
+    ensures taken { TellsTaken (P.taken importer.old.recorder.program) (K.told sink.new) }
+{
+    write_events(alloc, feeds, until, importer, sink)?;
+    Ok(imported_of(alloc, importer, feeds)?)
+}
+
 /// Writes logs as one trace to a sink to which nothing was written. Whatever the bytes of the logs are, each line that is written is
 /// a comment with which the trace begins, or an event that a run takes, in the order of time: behind all of them a run stands at the time `last`, and has heard `written` values.
 /// Each line that was read is understood or not, and each value of the lines was written or is left out; both are counted. What was
@@ -196,6 +216,5 @@ pub fn import<R: BufRead + Drop, P: Program + Drop, K: Sink>(
     let channels = write_front(alloc, wishes, feeds, begin, sink)?;
     let mut importer = Importer::new(alloc, channels, begin, program);
     let until = wishes.to.unwrap_or(u64::MAX);
-    write_events(alloc, feeds, until, &mut importer, sink)?;
-    Ok(imported_of(alloc, &importer, feeds)?)
+    imported_by(alloc, feeds, until, &mut importer, sink)
 }
