@@ -76,6 +76,29 @@ fn first_line(text: &[u8]) -> &[u8] {
     line.trim_ascii_start()
 }
 
+/// Adds the front of a test: its folder, its name and its time. The only error is that memory ends.
+fn push_case(
+    alloc: Global,
+    out: &mut Vec<u8>,
+    folder: &str,
+    name: &str,
+    micros: u64,
+) -> Result<(), AllocError> {
+    out.extend_from_slice(b"<testcase")?;
+    push_attribute(alloc, out, b"classname", folder.as_bytes())?;
+    push_attribute(alloc, out, b"name", name.as_bytes())?;
+    push_time(out, micros)
+}
+
+/// Adds the text of a failure, and the end of its test. The only error is that memory ends.
+fn push_failure(alloc: Global, out: &mut Vec<u8>, text: &[u8]) -> Result<(), AllocError> {
+    out.extend_from_slice(b"><failure")?;
+    push_attribute(alloc, out, b"message", first_line(text))?;
+    out.extend_from_slice(b">")?;
+    push_lines(alloc, out, text)?;
+    out.extend_from_slice(b"</failure></testcase>\n")
+}
+
 impl Report {
     /// No test was reported yet.
     pub fn new(alloc: Global) -> Report {
@@ -99,20 +122,12 @@ impl Report {
     ) -> Result<(), AllocError> {
         self.tests = self.tests.saturating_add(1);
         self.micros = self.micros.saturating_add(micros);
-        let out = &mut self.cases;
-        out.extend_from_slice(b"<testcase")?;
-        push_attribute(alloc, out, b"classname", folder.as_bytes())?;
-        push_attribute(alloc, out, b"name", name.as_bytes())?;
-        push_time(out, micros)?;
+        push_case(alloc, &mut self.cases, folder, name, micros)?;
         match failure {
-            None => out.extend_from_slice(b"/>\n"),
+            None => self.cases.extend_from_slice(b"/>\n"),
             Some(text) => {
                 self.failures = self.failures.saturating_add(1);
-                out.extend_from_slice(b"><failure")?;
-                push_attribute(alloc, out, b"message", first_line(text))?;
-                out.extend_from_slice(b">")?;
-                push_lines(alloc, out, text)?;
-                out.extend_from_slice(b"</failure></testcase>\n")
+                push_failure(alloc, &mut self.cases, text)
             }
         }
     }

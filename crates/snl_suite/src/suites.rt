@@ -198,21 +198,47 @@ fn fill(alloc: Global, names: &[String], programs: &mut Vec<Program>) -> Result<
     Ok(())
 }
 
+/// Adds the tests of all stems of some names to the programs.
+fn place_all(
+    alloc: Global,
+    names: &[String],
+    programs: &[&str],
+    suite: &mut Suite,
+) -> Result<(), AllocError> {
+    let bytes = all_bytes(alloc, programs)?;
+    let stems = stems_in(alloc, names)?;
+    for stem in stems.iter() {
+        place(alloc, names, bytes.as_slice(), stem, suite)?;
+    }
+    Ok(())
+}
+
+/// The programs of some names, without a test yet.
+fn empty_of(alloc: Global, names: &[String], programs: &[&str]) -> Result<Suite, AllocError> {
+    Ok(Suite {
+        programs: all_programs(alloc, names, programs)?,
+        orphans: Vec::new(alloc),
+    })
+}
+
+/// Adds all tests to the programs, and names the files that have none.
+fn add_tests(
+    alloc: Global,
+    names: &[String],
+    programs: &[&str],
+    suite: &mut Suite,
+) -> Result<(), AllocError> {
+    place_all(alloc, names, programs, suite)?;
+    push_lost(alloc, names, &mut suite.orphans)?;
+    fill(alloc, names, &mut suite.programs)
+}
+
 /// The tests among the files of a folder, by their names. Each `NAME.st` is a program. A trace or an output is that of the longest NAME
 /// that it fits: `NAME.trace`, or `NAME-DAY.trace`. A program that has neither is a test by itself, over an empty trace. `NAME.watch.st`
 /// is no program where `NAME.st` is there, but its requirement. The only error is that memory ends.
 pub fn suite_of(alloc: Global, names: &[String]) -> Result<Suite, AllocError> {
     let programs = programs_in(alloc, names)?;
-    let bytes = all_bytes(alloc, programs.as_slice())?;
-    let stems = stems_in(alloc, names)?;
-    let mut suite = Suite {
-        programs: all_programs(alloc, names, programs.as_slice())?,
-        orphans: Vec::new(alloc),
-    };
-    for stem in stems.iter() {
-        place(alloc, names, bytes.as_slice(), stem, &mut suite)?;
-    }
-    push_lost(alloc, names, &mut suite.orphans)?;
-    fill(alloc, names, &mut suite.programs)?;
+    let mut suite = empty_of(alloc, names, programs.as_slice())?;
+    add_tests(alloc, names, programs.as_slice(), &mut suite)?;
     Ok(suite)
 }
