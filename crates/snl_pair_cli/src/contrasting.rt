@@ -143,8 +143,8 @@ fn prepared<T: Prepares<W> + Drop, W: Watches>(
 /// Makes the program of a source ready for the search; None where it has an error.
 fn prepared_in<W: Watches>(
     rt: &HostRuntime,
-    asked: Asked,
     source: Source,
+    asked: Asked,
     limits: &mut Limits<W>,
 ) -> Result<Option<Box<Prepared>>, AllocError> {
     let name = source.file.as_bytes();
@@ -182,10 +182,10 @@ fn pair_in<W: Watches>(
         file: asked.words.new.file.as_str(),
         like: &wishes.new_like,
     };
-    let Some(old) = prepared_in(rt, asked, old, limits)? else {
+    let Some(old) = prepared_in(rt, old, asked, limits)? else {
         return Ok(None);
     };
-    let Some(new) = prepared_in(rt, asked, new, limits)? else {
+    let Some(new) = prepared_in(rt, new, asked, limits)? else {
         return Ok(None);
     };
     Ok(Some(Pair { old, new }))

@@ -135,8 +135,8 @@ fn searched<'c>(
 /// program and what is made of it is dear to prove.
 fn heard_if<T: Hears<W> + Drop, W: Watches>(
     alloc: Global,
-    program: Option<Box<T>>,
     job: &Job,
+    program: Option<Box<T>>,
     machine: &Machine,
     like: &Option<File>,
     limits: &mut Limits<W>,
@@ -160,7 +160,7 @@ fn heard_in<W: Watches>(
     let Asked { source, call, .. } = guard.asked;
     let job = &call.job;
     match judged(rt.alloc(), job.file.as_bytes(), source, job.options) {
-        Ok(Judgement { checked, .. }) => heard_if(rt.alloc(), checked, job, machine, like, limits),
+        Ok(Judgement { checked, .. }) => heard_if(rt.alloc(), job, checked, machine, like, limits),
         Err(_) => Err(WishFault::Memory),
     }
 }

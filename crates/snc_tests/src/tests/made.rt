@@ -6,9 +6,10 @@ use snl_machine::Machine;
 use std::alloc::Global;
 use std::test::Fail;
 
-/// The program that a source spells, checked.
-pub fn checked<'a>(alloc: Global, source: &'a [u8]) -> Result<Box<Checked<'a>>, Fail> {
-    let found = judged(alloc, b"", source, Options::none())?;
+/// The program that a source spells, checked; the source's file has a name. That stands in front, as it does where a source is judged:
+/// so the program has the same number among the lifetimes in both.
+pub fn checked<'a>(alloc: Global, file: &[u8], source: &'a [u8]) -> Result<Box<Checked<'a>>, Fail> {
+    let found = judged(alloc, file, source, Options::none())?;
     there(found.checked)
 }
 

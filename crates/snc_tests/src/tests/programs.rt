@@ -144,7 +144,7 @@ pub fn asked<A: Abort>(
     question: Question,
     text: &mut Vec<u8>,
 ) -> Result<usize, Fail> {
-    let checked = checked(alloc, source)?;
+    let checked = checked(alloc, b"", source)?;
     answer(&checked, rt, alloc, question, text)
 }
 
