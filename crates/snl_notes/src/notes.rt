@@ -4,34 +4,35 @@ use crate::faulty::fault_notes;
 use crate::forms::{Form, Sheet};
 use crate::messages::push_messages;
 use crate::refused::{push_refused, push_too_deep};
-use snl_check::{Message, Options, Outcome, check};
+use snl_check::{Message, Options};
 use snl_lints::Text;
+use snl_messages::messages_and_uses;
 use snl_syntax::Program;
 use snl_text::{LexFault, Lexed, lex};
 use snl_tree::{ParseFault, parse};
 use std::alloc::{AllocError, Global};
 
-/// The messages about a program. The allocator is lent, so that the program has the same number among the lifetimes as where it is read.
-fn messages_of(
-    alloc: &Global,
-    program: Program,
+/// The messages about a program.
+fn messages_of<'a>(
+    alloc: Global,
+    program: &Program<'a>,
     given: Options,
 ) -> Result<Vec<Message>, AllocError> {
-    let Outcome {
-        messages,
-        checked: _,
-    } = check(alloc, program, given)?;
+    let (messages, _uses) = messages_and_uses(alloc, program, given)?;
     Ok(messages)
 }
 
 /// The messages about the program that tokens are, or why they are none.
-fn messages_in(
+fn messages_in<'a>(
     alloc: Global,
-    lexed: &Lexed,
+    lexed: &Lexed<'a>,
     given: Options,
 ) -> Result<Result<Vec<Message>, ParseFault>, AllocError> {
     match parse(alloc, lexed) {
-        Ok(program) => Ok(Ok(messages_of(&alloc, program, given)?)),
+        Ok(program) => {
+            let messages = messages_of(alloc, &program, given)?;
+            Ok(Ok(messages))
+        }
         Err(fault) => Ok(Err(fault)),
     }
 }

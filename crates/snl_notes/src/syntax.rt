@@ -234,6 +234,11 @@ fn standing_help<'a>(
     type_help(tokens, at, before.kind, token.kind)
 }
 
+/// The keyword that is nearest to a name, if one is near. Only here are the keywords borrowed: each point of a proof lists them.
+fn nearest_keyword(alloc: Global, name: &[u8]) -> Result<Option<&'static [u8]>, AllocError> {
+    nearest_word(alloc, name, &KEYWORDS)
+}
+
 /// What helps at a token behind another one. A keyword that is near comes before where it stands.
 fn help_behind<'a>(
     alloc: Global,
@@ -246,7 +251,7 @@ fn help_behind<'a>(
         return Ok(Some(help));
     }
     if token.kind == Kind::Name {
-        if let Some(word) = nearest_word(alloc, token.text, &KEYWORDS)? {
+        if let Some(word) = nearest_keyword(alloc, token.text)? {
             return Ok(meant(Some(word)));
         }
     }
