@@ -57,8 +57,8 @@ fn put_chart(
 /// Numbers the channel of a link, which has a name. Answers the number where a variable is declared at one of these offsets, and the
 /// channel comes first.
 fn put_number<'l>(
-    link: &'l Link,
     declared: &IndexSet<usize>,
+    link: &'l Link,
     channels: &mut IndexSet<&'l [u8]>,
     seen: &mut IndexSet<usize>,
 ) -> Result<Option<usize>, AllocError> {
@@ -73,15 +73,15 @@ fn put_number<'l>(
 /// The links of the channels that are put to, each with the number of its channel.
 fn put_links<'l>(
     alloc: Global,
-    links: &'l [Link],
     declared: &IndexSet<usize>,
+    links: &'l [Link],
 ) -> Result<Vec<(&'l Link, usize)>, AllocError> {
     let mut channels = IndexSet::new(alloc);
     let mut seen = IndexSet::new(alloc);
     let mut found = Vec::new(alloc);
     for link in links {
         if !link.name.is_empty() {
-            if let Some(number) = put_number(link, declared, &mut channels, &mut seen)? {
+            if let Some(number) = put_number(declared, link, &mut channels, &mut seen)? {
                 found.push((link, number))?;
             }
         }
@@ -97,7 +97,7 @@ pub(crate) fn put_charts(
     links: &[Link],
     declared: &IndexSet<usize>,
 ) -> Result<Vec<PutChart>, AllocError> {
-    let found = put_links(alloc, links, declared)?;
+    let found = put_links(alloc, declared, links)?;
     let mut puts = Vec::new(alloc);
     for (link, number) in &found {
         puts.push(put_chart(alloc, source, links, link, *number)?)?;

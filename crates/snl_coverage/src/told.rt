@@ -43,6 +43,17 @@ fn clause_trails(
     Ok(clauses)
 }
 
+/// What became of a state.
+fn state_trail(
+    alloc: Global,
+    chart: &StateOutline,
+    counts: &mut Counts,
+) -> Result<StateTrail, AllocError> {
+    let entered = counts.take();
+    let clauses = clause_trails(alloc, chart, counts)?;
+    Ok(StateTrail { entered, clauses })
+}
+
 /// What became of the states of a state set.
 fn set_trail(
     alloc: Global,
@@ -51,9 +62,7 @@ fn set_trail(
 ) -> Result<SetTrail, AllocError> {
     let mut states = Vec::new(alloc);
     for state in &chart.states {
-        let entered = counts.take();
-        let clauses = clause_trails(alloc, state, counts)?;
-        states.push(StateTrail { entered, clauses })?;
+        states.push(state_trail(alloc, state, counts)?)?;
     }
     Ok(SetTrail { states })
 }

@@ -55,12 +55,12 @@ impl ExpressionNames<'_> {
 
 /// The first of some arguments, where it is an expression.
 pub(crate) fn first_value<'e, 'a>(arguments: &'e [Argument<'a>]) -> Option<&'e Expr<'a>> {
-    match arguments.first() {
-        Some(argument) => match argument {
+    match arguments {
+        [first, ..] => match first {
             Argument::Value(value) => Some(value),
             Argument::Text(_) => None,
         },
-        None => None,
+        [] => None,
     }
 }
 

@@ -74,9 +74,9 @@ fn spans_of(alloc: Global, tokens: &[Token], whole: Span) -> Result<Vec<Span>, A
 
 /// Whether operands are joined by `&&` or `||`.
 fn are_joined<'a>(terms: &[Term<'a>]) -> bool {
-    match terms.first() {
-        Some(term) => joint_of(term.operator.kind).is_some(),
-        None => false,
+    match terms {
+        [first, ..] => joint_of(first.operator.kind).is_some(),
+        [] => false,
     }
 }
 

@@ -215,7 +215,7 @@ fn whole_of<R: Source + Drop, K: Sink + Drop>(
     )?;
     let Ran { end, heard, trace } = ran;
     let scene = scene_of(subject.source, stage);
-    let summary = summary_of(alloc, scene, end, heard, teller.notes())?;
+    let summary = summary_of(alloc, teller.notes(), scene, end, heard)?;
     let is_whole = summed(&mut teller, end, summary.as_slice());
     let is_faithful = teller.is_faithful();
     if !is_faithful {
@@ -272,7 +272,7 @@ fn folded_of<R: Source + Drop, K: Sink + Drop, W: Sink + Drop>(
         return Err(AllocError);
     }
     let scene = scene_of(subject.source, stage);
-    let summary = summary_of(alloc, scene, end, heard, folder.notes())?;
+    let summary = summary_of(alloc, folder.notes(), scene, end, heard)?;
     let is_whole = finished(&mut folder, end, summary.as_slice());
     let is_faithful = folder.is_faithful();
     if !is_faithful {

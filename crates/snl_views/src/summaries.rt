@@ -31,7 +31,7 @@ fn push_end(out: &mut Vec<u8>, what: &[u8], time: Time, line: u64) -> Result<(),
 
 /// The line of the trace at which a run ended. Several lines are given to it at once, and it may end at one of them; where they
 /// ran out, it is the last.
-fn line_of(end: End, notes: &Notes) -> u64 {
+fn line_of(notes: &Notes, end: End) -> u64 {
     match end {
         End::ProgramEnded | End::Fault(_, _) => notes.line_at_work(),
         End::TraceEnded | End::TraceFault(_, _) | End::SourceFailed | End::SinkFailed => {
@@ -71,7 +71,7 @@ fn push_noted(out: &mut Vec<u8>, text: &[u8]) -> Result<(), AllocError> {
 }
 
 /// Adds where each state set stands.
-fn push_sets(out: &mut Vec<u8>, notes: &Notes, zero: Zero) -> Result<(), AllocError> {
+fn push_sets(notes: &Notes, out: &mut Vec<u8>, zero: Zero) -> Result<(), AllocError> {
     let legend = notes.legend();
     let count = legend.sets.len() as u64;
     for (number, standing) in notes.standing().sets().iter().enumerate() {
@@ -141,27 +141,27 @@ fn push_counts(out: &mut Vec<u8>, standing: &Standing, end: End) -> Result<(), A
 
 /// Adds how a run ended, and where.
 fn push_ending(
+    notes: &Notes,
     out: &mut Vec<u8>,
     scene: ProgramView,
     end: End,
     zero: Zero,
-    notes: &Notes,
 ) -> Result<(), AllocError> {
     let ms = scene.machine.time();
-    push_how(out, end, Time { ms, zero }, line_of(end, notes))
+    push_how(out, end, Time { ms, zero }, line_of(notes, end))
 }
 
 /// Adds where the state sets stand or, where the program never began, what it waits for.
 fn push_standing(
     alloc: Global,
+    notes: &Notes,
     out: &mut Vec<u8>,
     scene: ProgramView,
     end: End,
     heard: HeardTrace,
-    notes: &Notes,
 ) -> Result<(), AllocError> {
     if notes.standing().has_begun() {
-        push_sets(out, notes, heard.zero())
+        push_sets(notes, out, heard.zero())
     } else if end != End::SinkFailed {
         push_waits(alloc, out, scene, end, heard)
     } else {
@@ -172,14 +172,14 @@ fn push_standing(
 /// The summary of a run, each line with `# ` in front. Fails only where memory ran out.
 pub(crate) fn summary_of(
     alloc: Global,
+    notes: &Notes,
     scene: ProgramView,
     end: End,
     heard: HeardTrace,
-    notes: &Notes,
 ) -> Result<Vec<u8>, AllocError> {
     let mut out = Vec::new(alloc);
-    push_ending(&mut out, scene, end, heard.zero(), notes)?;
-    push_standing(alloc, &mut out, scene, end, heard, notes)?;
+    push_ending(notes, &mut out, scene, end, heard.zero())?;
+    push_standing(alloc, notes, &mut out, scene, end, heard)?;
     push_counts(&mut out, notes.standing(), end)?;
     Ok(out)
 }
