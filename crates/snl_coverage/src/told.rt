@@ -7,7 +7,7 @@ use snl_outline::{SetOutline, StateOutline};
 use snl_watch::{ClauseTrail, SetTrail, StateTrail, Trail};
 use std::alloc::{AllocError, Global};
 
-/// Counts that are taken one by one.
+/// CountReader that are taken one by one.
 #[derive(Drop)]
 struct CountReader<'c> {
     all: &'c [u64],
@@ -47,7 +47,7 @@ fn clause_trails(
 fn state_trail(
     alloc: Global,
     chart: &StateOutline,
-    counts: &mut Counts,
+    counts: &mut CountReader,
 ) -> Result<StateTrail, AllocError> {
     let entered = counts.take();
     let clauses = clause_trails(alloc, chart, counts)?;

@@ -216,7 +216,7 @@ fn statement<'a, 't>(
     }
     if at(cursor, Kind::Semicolon) {
         sign(cursor, Kind::Semicolon)?;
-        return boxed_empty(alloc);
+        return boxed_empty(&alloc);
     }
     if at(cursor, Kind::If) {
         return if_statement(alloc, cursor, limit, depth);
