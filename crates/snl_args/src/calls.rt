@@ -1,7 +1,7 @@
 //! What the words of a call ask for, and what may be wrong with them.
 
 use crate::explains::read_explain;
-use crate::forms::{Form, form_of, found_in};
+use crate::forms::{CallForm, form_of, found_in};
 use crate::found::{budget_in, job_in, text_in};
 use crate::language::with_help;
 use crate::texts::{HELP, WORDS};
@@ -144,9 +144,9 @@ fn fault_of(
 
 /// How many ticks an instant of a run may take. What a search found is run again with the budget that `snlrun` has where nothing
 /// is said.
-fn budget_of(form: Form, matches: &ArgMatches) -> u32 {
+fn budget_of(form: CallForm, matches: &ArgMatches) -> u32 {
     match form {
-        Form::Search | Form::SameSearch => DEFAULT_BUDGET,
+        CallForm::Search | CallForm::SameSearch => DEFAULT_BUDGET,
         _ => budget_in(matches),
     }
 }
@@ -154,12 +154,12 @@ fn budget_of(form: Form, matches: &ArgMatches) -> u32 {
 /// What the program of a call is to be run with. A call of `trace` runs none, and one of `test` has many.
 fn job_of(
     alloc: Global,
-    form: Form,
+    form: CallForm,
     matches: &ArgMatches,
     options: Options,
 ) -> Result<Job, AllocError> {
     let file = match form {
-        Form::Same | Form::SameSearch => "OLD",
+        CallForm::Same | CallForm::SameSearch => "OLD",
         _ => "FILE",
     };
     job_in(alloc, matches, file, options, budget_of(form, matches))
@@ -168,7 +168,7 @@ fn job_of(
 /// What a call of a form asks for, as its command found it.
 fn call_in(
     alloc: Global,
-    form: Form,
+    form: CallForm,
     matches: &ArgMatches,
     options: Options,
 ) -> Result<Call, CallFault> {
@@ -185,7 +185,7 @@ fn call_in(
 /// What a call of a form asks for, by the words behind its own.
 fn read_form(
     alloc: Global,
-    form: Form,
+    form: CallForm,
     words: &[&str],
     options: Options,
 ) -> Result<Call, CallFault> {

@@ -20,7 +20,7 @@ use std::alloc::Global;
 
 /// The form of a call: its word, and for some words an option that makes them take other arguments.
 #[derive(Clone, Copy)]
-pub(crate) enum Form {
+pub(crate) enum CallForm {
     /// `waits`.
     Waits,
     /// `run`.
@@ -147,23 +147,23 @@ fn has_word(words: &[&str], option: &str) -> bool {
 }
 
 /// The form of a call whose first word has a name, by the words that follow; None where no word that asks for something has it.
-pub(crate) fn form_of(name: &str, words: &[&str]) -> Option<Form> {
+pub(crate) fn form_of(name: &str, words: &[&str]) -> Option<CallForm> {
     Some(match name {
-        "waits" => Form::Waits,
-        "run" => Form::Run,
-        "cover" => Form::Cover,
-        "graph" => Form::Graph,
-        "search" if has_word(words, "--join") => Form::Join,
-        "search" => Form::Search,
-        "same" if has_word(words, "--search") => Form::SameSearch,
-        "same" => Form::Same,
-        "at" if asks_event(words) => Form::AtEvent,
-        "at" => Form::At,
-        "tree" => Form::Tree,
-        "sets" => Form::Sets,
-        "check" => Form::Check,
-        "trace" => Form::Trace,
-        "test" => Form::Test,
+        "waits" => CallForm::Waits,
+        "run" => CallForm::Run,
+        "cover" => CallForm::Cover,
+        "graph" => CallForm::Graph,
+        "search" if has_word(words, "--join") => CallForm::Join,
+        "search" => CallForm::Search,
+        "same" if has_word(words, "--search") => CallForm::SameSearch,
+        "same" => CallForm::Same,
+        "at" if asks_event(words) => CallForm::AtEvent,
+        "at" => CallForm::At,
+        "tree" => CallForm::Tree,
+        "sets" => CallForm::Sets,
+        "check" => CallForm::Check,
+        "trace" => CallForm::Trace,
+        "test" => CallForm::Test,
         _ => return None,
     })
 }
@@ -244,23 +244,23 @@ fn test_synopsis() -> &'static Synopsis {
 }
 
 /// What a form takes.
-fn synopsis_of(form: Form) -> &'static Synopsis {
+fn synopsis_of(form: CallForm) -> &'static Synopsis {
     match form {
-        Form::Waits => waits_synopsis(),
-        Form::Run => run_synopsis(),
-        Form::Cover => cover_synopsis(),
-        Form::Graph => graph_synopsis(),
-        Form::Search => search_synopsis(),
-        Form::Join => join_synopsis(),
-        Form::Same => same_synopsis(),
-        Form::SameSearch => same_search_synopsis(),
-        Form::At => at_synopsis(),
-        Form::AtEvent => at_event_synopsis(),
-        Form::Tree => tree_synopsis(),
-        Form::Sets => sets_synopsis(),
-        Form::Check => check_synopsis(),
-        Form::Trace => trace_synopsis(),
-        Form::Test => test_synopsis(),
+        CallForm::Waits => waits_synopsis(),
+        CallForm::Run => run_synopsis(),
+        CallForm::Cover => cover_synopsis(),
+        CallForm::Graph => graph_synopsis(),
+        CallForm::Search => search_synopsis(),
+        CallForm::Join => join_synopsis(),
+        CallForm::Same => same_synopsis(),
+        CallForm::SameSearch => same_search_synopsis(),
+        CallForm::At => at_synopsis(),
+        CallForm::AtEvent => at_event_synopsis(),
+        CallForm::Tree => tree_synopsis(),
+        CallForm::Sets => sets_synopsis(),
+        CallForm::Check => check_synopsis(),
+        CallForm::Trace => trace_synopsis(),
+        CallForm::Test => test_synopsis(),
     }
 }
 
@@ -277,7 +277,7 @@ pub(crate) fn found_by<'w>(
 /// What is found in the words behind those of a form.
 pub(crate) fn found_in<'w>(
     alloc: Global,
-    form: Form,
+    form: CallForm,
     words: &'w [&'w str],
 ) -> Result<ArgMatches<'w>, CallFault> {
     found_by(alloc, synopsis_of(form), words)

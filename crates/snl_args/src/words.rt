@@ -3,7 +3,7 @@
 use crate::ats::{AtWords, at_event, at_times};
 use crate::calls::CallFault;
 use crate::checks::{CheckWords, check_words};
-use crate::forms::Form;
+use crate::forms::CallForm;
 use crate::found::{job_in, text_in, texts_in, watch_in};
 use crate::joins::{JoinWords, join_words};
 use crate::runs::{RunWords, run_words};
@@ -146,26 +146,26 @@ fn same_word(
 /// The word of a form, with what its command found. Programs of the word have these options and this budget.
 pub(crate) fn word_in(
     alloc: Global,
-    form: Form,
+    form: CallForm,
     matches: &ArgMatches,
     options: Options,
     budget: u32,
 ) -> Result<Box<Word>, CallFault> {
     match form {
-        Form::Waits => boxed(alloc, Word::Waits),
-        Form::Run => run_word(alloc, matches, options, budget),
-        Form::Cover => boxed(alloc, Word::Cover(cover_words(alloc, matches)?)),
-        Form::Graph => boxed(alloc, Word::Graph(graph_words(alloc, matches)?)),
-        Form::Search => search_word(alloc, matches, options, budget),
-        Form::Join => boxed(alloc, Word::Join(join_words(alloc, matches)?)),
-        Form::Same => same_word(alloc, matches, options, budget, false),
-        Form::SameSearch => same_word(alloc, matches, options, budget, true),
-        Form::At => boxed(alloc, Word::At(at_times(alloc, matches)?)),
-        Form::AtEvent => boxed(alloc, Word::At(at_event(alloc, matches)?)),
-        Form::Tree => boxed(alloc, Word::Tree),
-        Form::Sets => boxed(alloc, Word::Sets(matches.get_flag("declare"))),
-        Form::Check => boxed(alloc, Word::Check(check_words(alloc, matches)?)),
-        Form::Trace => boxed(alloc, Word::Trace(trace_words(alloc, matches)?)),
-        Form::Test => boxed(alloc, Word::Test(test_words(alloc, matches)?)),
+        CallForm::Waits => boxed(alloc, Word::Waits),
+        CallForm::Run => run_word(alloc, matches, options, budget),
+        CallForm::Cover => boxed(alloc, Word::Cover(cover_words(alloc, matches)?)),
+        CallForm::Graph => boxed(alloc, Word::Graph(graph_words(alloc, matches)?)),
+        CallForm::Search => search_word(alloc, matches, options, budget),
+        CallForm::Join => boxed(alloc, Word::Join(join_words(alloc, matches)?)),
+        CallForm::Same => same_word(alloc, matches, options, budget, false),
+        CallForm::SameSearch => same_word(alloc, matches, options, budget, true),
+        CallForm::At => boxed(alloc, Word::At(at_times(alloc, matches)?)),
+        CallForm::AtEvent => boxed(alloc, Word::At(at_event(alloc, matches)?)),
+        CallForm::Tree => boxed(alloc, Word::Tree),
+        CallForm::Sets => boxed(alloc, Word::Sets(matches.get_flag("declare"))),
+        CallForm::Check => boxed(alloc, Word::Check(check_words(alloc, matches)?)),
+        CallForm::Trace => boxed(alloc, Word::Trace(trace_words(alloc, matches)?)),
+        CallForm::Test => boxed(alloc, Word::Test(test_words(alloc, matches)?)),
     }
 }

@@ -2,15 +2,15 @@
 
 use crate::checking::SourceJob;
 use snl_args::Format;
-use snl_notes::{Form, Read, notes_of};
+use snl_notes::{NoteForm, Read, notes_of};
 use std::alloc::AllocError;
 
 /// How notes are written in a format.
-fn form_of(format: Format) -> Form {
+fn form_of(format: Format) -> NoteForm {
     match format {
-        Format::Text => Form::Text,
-        Format::Gcc => Form::Gcc,
-        Format::Json => Form::Json,
+        Format::Text => NoteForm::Text,
+        Format::Gcc => NoteForm::Gcc,
+        Format::Json => NoteForm::Json,
     }
 }
 

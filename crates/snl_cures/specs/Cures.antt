@@ -5,14 +5,14 @@ use Rattle.snl_text.specs.declared.tokens.Pos.{Pos}
 use Rattle.snl_text.specs.declared.tokens.Token.{Token}
 use Rattle.snl_cures.specs.declared.cures.Cure.{Cure}
 use Rattle.snl_cures.specs.declared.cures.Cure.TheVariants.{Before, Instead, Away}
-use Rattle.snl_cures.specs.declared.cures.Piece.{Piece}
+use Rattle.snl_cures.specs.declared.cures.CureToken.{CureToken}
 use Rattle.snl_cures.specs.declared.finding.Cured.{Cured}
 use Rattle.snl_cures.specs.declared.reaching.Reach.{Reach}
 use Rattle.snl_cures.specs.declared.reaching.Reach.TheVariants.{Whole, Unexpected, TooDeep}
 use Rattle.snl_cures.specs.Reaching.{AreProgram, HasFault, IsReach}
 
 -- A piece as a token at a place.
-abbrev pub token_of : Piece → Pos → Token
+abbrev pub token_of : CureToken → Pos → Token
 token_of piece pos = record { kind = piece.kind; text = piece.text; pos = pos }
 
 -- The place of a token, or the end of the source where there is none.

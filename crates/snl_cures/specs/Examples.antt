@@ -5,7 +5,7 @@ use Rattle.snl_text.specs.declared.kinds.Kind.TheVariants as kind
 use Rattle.snl_text.specs.declared.tokens.Pos.{Pos}
 use Rattle.snl_text.specs.declared.tokens.Token.{Token}
 use Rattle.snl_cures.specs.declared.cures.Cure.TheVariants.{Before, Instead, Away}
-use Rattle.snl_cures.specs.declared.cures.Piece.{Piece}
+use Rattle.snl_cures.specs.declared.cures.CureToken.{CureToken}
 use Rattle.snl_cures.specs.Cures.{mended_at, IsCure}
 
 -- A place.
@@ -17,7 +17,7 @@ abbrev pub token : Kind → ℕ → Token
 token kind n = record { kind = kind; text = record { ref_ptr = (0, 0); now = [] }; pos = at_byte n }
 
 -- A piece.
-abbrev pub piece : Kind → Piece
+abbrev pub piece : Kind → CureToken
 piece kind = record { kind = kind; text = record { ref_ptr = (0, 0); now = [] } }
 
 -- `x`, `=` and `1`, each with a blank behind it

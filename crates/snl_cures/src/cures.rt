@@ -6,7 +6,7 @@ use snl_text::Kind;
 
 /// A token as it is put.
 #[derive(Clone, Copy, Debug, PartialEq, Eq)]
-pub struct Piece {
+pub struct CureToken {
     /// What sort of token it is.
     pub kind: Kind,
     /// As it is spelled.
@@ -17,9 +17,9 @@ pub struct Piece {
 #[derive(Clone, Copy, Debug, PartialEq, Eq)]
 pub enum Cure {
     /// A token is put in front of it.
-    Before(Piece),
+    Before(CureToken),
     /// Another token stands in its place.
-    Instead(Piece),
+    Instead(CureToken),
     /// It is left out.
     Away,
 }
@@ -27,7 +27,7 @@ pub enum Cure {
 /// A piece, by the name of its kind.
 macro_rules! piece {
     ($kind:ident, $text:literal) => {
-        Piece {
+        CureToken {
             kind: Kind::$kind,
             text: $text,
         }
@@ -38,7 +38,7 @@ macro_rules! piece {
 const PIECE_COUNT: usize = 21;
 
 /// The pieces that are tried, in this order: signs, words, and what stands for any value, name or text.
-const PIECES: [Piece; PIECE_COUNT] = [
+const PIECES: [CureToken; PIECE_COUNT] = [
     piece!(Semicolon, b";"),
     piece!(CloseBrace, b"}"),
     piece!(CloseParenthesis, b")"),

@@ -9,7 +9,7 @@ pub mod laws;
 mod mending;
 mod reaching;
 
-pub use cures::{Cure, Piece};
+pub use cures::{Cure, CureToken};
 pub use finding::{Cured, cure_at};
 pub use mending::put_count;
 pub use reaching::Reach;

@@ -3,12 +3,12 @@
 ghost use Rattle.std.specs.Prelude.{◌≡◌, IfOk, OnOk, length, slice_get, IsTrue};
 ghost use Rattle.snl_cures.specs.Cures as spec;
 
-use crate::cures::{Cure, Piece};
+use crate::cures::{Cure, CureToken};
 use snl_text::{Lexed, Pos, Token};
 use std::alloc::{AllocError, Global};
 
 /// A piece as a token at a place.
-fn token_of<'a>(piece: Piece, pos: Pos) -> Token<'a>
+fn token_of<'a>(piece: CureToken, pos: Pos) -> Token<'a>
     ensures { result ≡ spec.token_of piece pos }
 {
     Token {

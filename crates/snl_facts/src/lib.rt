@@ -10,6 +10,6 @@ mod operands;
 mod programs;
 mod statements;
 
-pub use facts::{Facts, Turn};
+pub use facts::{ExpressionFacts, Turn};
 pub use formats::Format;
 pub use programs::facts_of;

@@ -1,7 +1,9 @@
 //! What is known of a channel of logs.
 
 use crate::roles::Role;
-use snl_logs::{Cause, Pattern, Read, Said, Scale, Severity, Units, Values, items_of, values_of};
+use snl_logs::{
+    Cause, Pattern, Read, SampleValue, Scale, Severity, Units, Values, items_of, values_of,
+};
 use snl_units::{TextNumber, Unit};
 use std::alloc::{AllocError, Global};
 
@@ -69,11 +71,11 @@ pub struct Channel {
 }
 
 /// Puts the values that a sample spells into `values`.
-fn values_in(said: &Said, units: &Units, values: &mut Values) -> Result<Read, AllocError> {
+fn values_in(said: &SampleValue, units: &Units, values: &mut Values) -> Result<Read, AllocError> {
     match said {
-        Said::Value(text, _) => values_of(text, units, values),
-        Said::Items(text, _) => items_of(text, units, values),
-        Said::Lost => Ok(Err(Cause::Empty)),
+        SampleValue::Value(text, _) => values_of(text, units, values),
+        SampleValue::Items(text, _) => items_of(text, units, values),
+        SampleValue::Lost => Ok(Err(Cause::Empty)),
     }
 }
 
@@ -92,10 +94,10 @@ fn front_of(text: &[u8]) -> &[u8] {
 }
 
 /// The text of a sample.
-fn text_in<'l>(said: &Said<'l>) -> &'l [u8] {
+fn text_in<'l>(said: &SampleValue<'l>) -> &'l [u8] {
     match *said {
-        Said::Value(text, _) | Said::Items(text, _) => text,
-        Said::Lost => b"",
+        SampleValue::Value(text, _) | SampleValue::Items(text, _) => text,
+        SampleValue::Lost => b"",
     }
 }
 
@@ -170,7 +172,7 @@ impl Channel {
     pub fn take(
         &mut self,
         alloc: Global,
-        said: &Said,
+        said: &SampleValue,
         severity: Severity,
         values: &mut Values,
     ) -> Result<News, AllocError> {
@@ -200,7 +202,7 @@ impl Channel {
     fn read(
         &mut self,
         alloc: Global,
-        said: &Said,
+        said: &SampleValue,
         values: &mut Values,
     ) -> Result<Option<Cause>, AllocError> {
         match values_in(said, &self.units, values)? {

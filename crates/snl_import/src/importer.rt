@@ -13,7 +13,7 @@ use crate::errors::ImportError;
 use crate::happenings::Happening;
 use crate::programs::Program;
 use crate::recorder::Recorder;
-use snl_logs::{Cause, LogLine, Row, Said, Sample, Severity, Stamp, Values};
+use snl_logs::{Cause, LogLine, Row, Sample, SampleValue, Severity, Stamp, Values};
 use std::alloc::Global;
 
 /// Nanoseconds of a millisecond.
@@ -163,8 +163,8 @@ impl<P: Program + Drop> Importer<P> {
             self.begin()?;
         }
         match sample.said {
-            Said::Lost => self.write_lost(sample),
-            Said::Value(_, severity) | Said::Items(_, severity) => self.write_said(
+            SampleValue::Lost => self.write_lost(sample),
+            SampleValue::Value(_, severity) | SampleValue::Items(_, severity) => self.write_said(
                 sample, severity,
             ),
         }

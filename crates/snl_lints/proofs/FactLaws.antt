@@ -2,7 +2,7 @@
 use Rattle.std.proofs.Common.{◌≡◌, ℕ, ◌+◌, ◌<◌, ◌≤◌, Bool, List, length, drop, get_or, Option, None, Some, refl, sym, ap, ◌∙◌, drop_of_length-le}
 use Rattle.std.specs.Option.{option_or}
 use Rattle.std.proofs.lemmas.List.{drop_more}
-use Rattle.snl_lints.specs.declared.touches.Held.{Held}
+use Rattle.snl_lints.specs.declared.touches.ValueDomain.{ValueDomain}
 use Rattle.snl_lints.specs.declared.touches.Touch.{Touch}
 use Rattle.snl_lints.specs.Facts.{held_by, held_in}
 use Rattle.snl_lints.specs.declared.facts.Fact.{Fact}
@@ -39,11 +39,11 @@ or_none None = refl
 or_none (Some x) = refl
 
 -- an empty table
-pub held_first : (all : List Touch) (v : ℕ) (table : Option Held) → table ≡ None → option_or (held_in all v) table ≡ held_in all v
+pub held_first : (all : List Touch) (v : ℕ) (table : Option ValueDomain) → table ≡ None → option_or (held_in all v) table ≡ held_in all v
 held_first all v table e = ap (option_or (held_in all v)) e ∙ or_none (held_in all v)
 
 -- one touch more is in the table
-pub held_step : (all : List Touch) (i v : ℕ) (t : Touch) (old new start : Option Held) → i < length all
+pub held_step : (all : List Touch) (i v : ℕ) (t : Touch) (old new start : Option ValueDomain) → i < length all
     → new ≡ option_or (held_by (get_or all i t) v) old → option_or (held_in (drop i all) v) old ≡ start
     → option_or (held_in (drop (i + 1) all) v) new ≡ start
 held_step all i v t old new start h en inv =
@@ -52,5 +52,5 @@ held_step all i v t old new start h en inv =
     ∙ ap (λ l. option_or (held_in l v) old) (sym (drop_more all i t h)) ∙ inv
 
 -- all touches are
-pub held_end : (all : List Touch) (i v : ℕ) (table start : Option Held) → length all ≤ i → option_or (held_in (drop i all) v) table ≡ start → table ≡ start
+pub held_end : (all : List Touch) (i v : ℕ) (table start : Option ValueDomain) → length all ≤ i → option_or (held_in (drop i all) v) table ≡ start → table ≡ start
 held_end all i v table start h inv = ap (λ l. option_or (held_in l v) table) (sym (drop_of_length-le all h)) ∙ inv

@@ -13,7 +13,7 @@ use Rattle.snl_names.specs.declared.sites.Size.TheVariants.{Scalar, Array, Wrong
 use Rattle.snl_names.specs.Constants.{predefined, worth, of_token, joined, chosen, prefixed}
 use Rattle.snl_names.specs.Scopes.{size_by}
 use Rattle.snl_names.specs.Types.{is_in}
-use Rattle.snl_lints.specs.declared.touches.Held.{Held}
+use Rattle.snl_lints.specs.declared.touches.ValueDomain.{ValueDomain}
 
 -- ---- what expressions are worth
 
@@ -126,11 +126,11 @@ misses (Array size) z = is_outside size z
 misses size z = false
 
 -- A variable is known, and its type lacks a number.
-abbrev pub lacks_number : Option Held → ℤ → Bool
+abbrev pub lacks_number : Option ValueDomain → ℤ → Bool
 lacks_number None z = false
 lacks_number (Some h) z = not (is_in h.range z)
 
 -- A variable is known, and has no element of a number.
-abbrev pub misses_element : Option Held → ℤ → Bool
+abbrev pub misses_element : Option ValueDomain → ℤ → Bool
 misses_element None z = false
 misses_element (Some h) z = misses h.size z

@@ -6,14 +6,14 @@ use Rattle.snl_channels.specs.declared.macros.MacroTable.{MacroTable}
 use Rattle.snl_channels.specs.MacroTables.{found_in, value_in}
 use Rattle.snl_lints.specs.declared.facts.Fact.{Fact}
 use Rattle.snl_lints.specs.declared.facts.Fact.TheVariants as fact
-use Rattle.snl_lints.specs.declared.facts.Facts.{Facts}
+use Rattle.snl_lints.specs.declared.facts.VariableFacts.{VariableFacts}
 use Rattle.snl_lints.specs.declared.tables.Tables.{Tables}
 use Rattle.snl_lints.specs.Channels.{Given}
 use Rattle.snl_lints.specs.Doers.{doers_in}
 use Rattle.snl_lints.specs.Lints.{Known}
 
 -- What is known of a variable.
-abbrev pub known_in : Facts → Fact → ℕ → Bool
+abbrev pub known_in : VariableFacts → Fact → ℕ → Bool
 known_in k fact.Assigned v = contains nat_eq k.assigned v
 known_in k fact.Monitored v = contains nat_eq k.monitored v
 known_in k fact.Flagged v = contains nat_eq k.flagged v
@@ -24,7 +24,7 @@ known_in k fact.PutAsync v = contains nat_eq k.put_async v
 known_in k fact.Got v = contains nat_eq k.got v
 
 -- Nothing is known.
-pub record IsBlank (k : Facts) : Type 0 where
+pub record IsBlank (k : VariableFacts) : Type 0 where
   pub assigned : (v : ℕ) → contains nat_eq k.assigned v ≡ false
   pub monitored : (v : ℕ) → contains nat_eq k.monitored v ≡ false
   pub flagged : (v : ℕ) → contains nat_eq k.flagged v ≡ false

@@ -5,7 +5,7 @@ use Rattle.std.specs.Option.{option_or}
 use Rattle.snl_text.specs.declared.tokens.Pos.{Pos}
 use Rattle.snl_text.specs.declared.tokens.Token.{Token}
 use Rattle.snl_names.specs.declared.builtins.Query.TheVariants.{PvGet, PvGetQ}
-use Rattle.snl_lints.specs.declared.touches.Held.{Held}
+use Rattle.snl_lints.specs.declared.touches.ValueDomain.{ValueDomain}
 use Rattle.snl_lints.specs.declared.touches.Touch.{Touch}
 use Rattle.snl_lints.specs.declared.touches.Touch.TheVariants.{Assigns, Monitors, Flags, Reads, Sets, Puts, Asks, Holds}
 use Rattle.snl_lints.specs.declared.facts.Fact.{Fact}
@@ -48,11 +48,11 @@ abbrev pub is_done : (ℕ → Option Pos) → List Touch → Fact → ℕ → Bo
 is_done declared all f variable = list_any (does declared f variable) all
 
 -- What is told of a variable that it can hold.
-abbrev pub held_by : Touch → ℕ → Option Held
+abbrev pub held_by : Touch → ℕ → Option ValueDomain
 held_by (Holds x h) variable = if x.pos.offset == variable then Some h else None
 held_by t variable = None
 
 -- What the last of these tells that speaks of the variable.
-abbrev pub held_in : List Touch → ℕ → Option Held
+abbrev pub held_in : List Touch → ℕ → Option ValueDomain
 held_in [] variable = None
 held_in (t ∷ rest) variable = option_or (held_in rest variable) (held_by t variable)

@@ -10,7 +10,7 @@ use Rattle.snl_names.specs.Formats.{unquoted}
 use Rattle.snl_names.specs.Uses.{declared_of}
 use Rattle.snl_channels.specs.Links.{spelled}
 use Rattle.snl_channels.specs.Macros.{macros_of, replaced}
-use Rattle.snl_lints.specs.declared.touches.Held.{Held}
+use Rattle.snl_lints.specs.declared.touches.ValueDomain.{ValueDomain}
 use Rattle.snl_lints.specs.declared.touches.Touch.{Touch}
 use Rattle.snl_lints.specs.declared.touches.Touch.TheVariants.{Declares, Monitors, Asks, Equals, Comma, Returns, Names, Faults, Lacks, Stores, Picks}
 use Rattle.snl_lints.specs.declared.facts.Fact.{Fact}
@@ -37,7 +37,7 @@ pub record Known : Type 0 where
   pub done : Fact → ℕ → Bool
   pub setters : ℕ → Doers
   pub readers : ℕ → Doers
-  pub held : ℕ → Option Held
+  pub held : ℕ → Option ValueDomain
 
 -- By these touches of a program.
 abbrev pub known_by : (ℕ → Option Pos) → ProgramTree → List Touch → Known
@@ -94,11 +94,11 @@ at_asked declared done PvPutComplete x = when (of_meant (is_answered done) (decl
 at_asked declared done query x = []
 
 -- At a name that is given a constant: `constant`, where the type of its variable lacks that number.
-abbrev pub at_stored : (ℕ → Option Pos) → (ℕ → Option Held) → Token → ℤ → List Remark
+abbrev pub at_stored : (ℕ → Option Pos) → (ℕ → Option ValueDomain) → Token → ℤ → List Remark
 at_stored declared held x z = when (of_meant (λ v. lacks_number (held v) z) (declared x.pos.offset)) lint.Unfitting x
 
 -- At a name with a constant subscript: `constant`, where its variable has no such element.
-abbrev pub at_picked : (ℕ → Option Pos) → (ℕ → Option Held) → Token → ℤ → List Remark
+abbrev pub at_picked : (ℕ → Option Pos) → (ℕ → Option ValueDomain) → Token → ℤ → List Remark
 at_picked declared held x z = when (of_meant (λ v. misses_element (held v) z) (declared x.pos.offset)) lint.Missing x
 
 -- At the name of a channel: `macro`, where a macro of it has no definition or a brace is open; `unspoken`, where no line of a trace can tell

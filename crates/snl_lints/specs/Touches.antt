@@ -25,7 +25,7 @@ use Rattle.snl_names.specs.Options.{sign_in_force}
 use Rattle.snl_names.specs.Purposes.{is_step}
 use Rattle.snl_names.specs.Scopes.{is_spelled}
 use Rattle.snl_names.specs.Types.{range_of}
-use Rattle.snl_lints.specs.declared.touches.Held.{Held}
+use Rattle.snl_lints.specs.declared.touches.ValueDomain.{ValueDomain}
 use Rattle.snl_lints.specs.declared.touches.Role.{Role}
 use Rattle.snl_lints.specs.declared.touches.Role.TheVariants.{Value, Condition, Target, Put, Asked}
 use Rattle.snl_lints.specs.declared.touches.Touch.{Touch}
@@ -168,7 +168,7 @@ in_initialiser declared (single e) = in_value declared e
 in_initialiser declared (listed values) = in_values declared values
 
 -- What a variable of this type can hold that has these sizes.
-abbrev pub held_of : (ℕ → Option Pos) → TypeTree → List ExprTree → Held
+abbrev pub held_of : (ℕ → Option Pos) → TypeTree → List ExprTree → ValueDomain
 held_of declared type sizes = record { range = range_of type; size = size_of declared sizes }
 
 -- A variable whose type lacks what it begins with.
@@ -247,7 +247,7 @@ at_channels None = []
 at_channels (Some c) = at_names c.names
 
 -- What the variable of a parameter can hold.
-abbrev pub held_for : ParameterTree → Held
+abbrev pub held_for : ParameterTree → ValueDomain
 held_for p = record { range = range_of p.type_name; size = Scalar }
 
 -- A parameter of a function.

@@ -12,7 +12,7 @@ ghost use Rattle.snl_syntax.specs.view.Lists.{term_list};
 ghost use Rattle.snl_syntax.specs.view.Shown.{shown};
 ghost use Rattle.snl_lints.specs.Constants as spec;
 
-use crate::touches::Held;
+use crate::touches::ValueDomain;
 use snl_names::constants::{chosen, joined, of_token, prefixed, worth};
 use snl_names::{Constant, Size, UseTable, predefined};
 use snl_syntax::{Expr, Initialiser, Term};
@@ -165,7 +165,7 @@ fn misses(size: Size, number: i64) -> bool
 }
 
 /// Whether a variable is known, and its type lacks a number.
-pub fn lacks_number(held: Option<Held>, number: i64) -> bool
+pub fn lacks_number(held: Option<ValueDomain>, number: i64) -> bool
     ensures { result ≡ spec.lacks_number held number }
 {
     match held {
@@ -175,7 +175,7 @@ pub fn lacks_number(held: Option<Held>, number: i64) -> bool
 }
 
 /// Whether a variable is known, and has no element of a number.
-pub fn misses_element(held: Option<Held>, number: i64) -> bool
+pub fn misses_element(held: Option<ValueDomain>, number: i64) -> bool
     ensures { result ≡ spec.misses_element held number }
 {
     match held {

@@ -36,7 +36,7 @@ pub enum Fact {
 
 /// The variables with which each of these is done.
 #[derive(Drop)]
-pub struct Facts {
+pub struct VariableFacts {
     assigned: IndexSet<usize>,
     monitored: IndexSet<usize>,
     flagged: IndexSet<usize>,
@@ -108,12 +108,12 @@ fn note_fact(
     Ok(())
 }
 
-impl Facts {
+impl VariableFacts {
     /// Where nothing is known.
-    pub fn new(alloc: Global) -> Facts
+    pub fn new(alloc: Global) -> VariableFacts
         ensures { tables.IsBlank result }
     {
-        Facts {
+        VariableFacts {
             assigned: IndexSet::new(alloc),
             monitored: IndexSet::new(alloc),
             flagged: IndexSet::new(alloc),

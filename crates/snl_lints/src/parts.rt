@@ -12,7 +12,7 @@ ghost use Rattle.snl_lints.specs.Touches as spec;
 
 use crate::expressions::push_maybe_condition;
 use crate::statements::{push_block, push_declaration, push_maybe_block};
-use crate::touches::{Held, Touch, add};
+use crate::touches::{Touch, ValueDomain, add};
 use snl_names::{Size, UseTable, sign_in_force};
 use snl_resolve::range_of;
 use snl_syntax::{
@@ -128,10 +128,10 @@ fn push_assigned<'a>(
 }
 
 /// What the variable of a parameter can hold.
-fn held_for(parameter: &Parameter) -> Held
+fn held_for(parameter: &Parameter) -> ValueDomain
     ensures { result ≡ spec.held_for (parameter_view parameter.now) }
 {
-    Held {
+    ValueDomain {
         range: range_of(parameter.type_name),
         size: Size::Scalar,
     }

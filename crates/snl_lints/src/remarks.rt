@@ -12,7 +12,7 @@ ghost use Rattle.snl_lints.specs.Lints as spec;
 
 use crate::channels::{has_undefined, is_open, is_unspoken_after};
 use crate::constants::{lacks_number, misses_element};
-use crate::facts::{Fact, Facts};
+use crate::facts::{Fact, VariableFacts};
 use crate::parts::touches_of;
 use crate::tables::{Tables, note_all};
 use crate::touches::{Touch, add};
@@ -91,14 +91,14 @@ fn push_when<'a>(
 }
 
 /// Whether something brings a variable the value of its channel.
-fn is_refreshed(facts: &Facts, variable: usize) -> bool
+fn is_refreshed(facts: &VariableFacts, variable: usize) -> bool
     ensures { result ≡ spec.is_refreshed (known_in facts.now) variable }
 {
     facts.is_done(Fact::Monitored, variable) || facts.is_done(Fact::Got, variable)
 }
 
 /// Whether a variable of a channel is read, and nothing gives it a value.
-fn is_stale(facts: &Facts, variable: usize) -> bool
+fn is_stale(facts: &VariableFacts, variable: usize) -> bool
     ensures { result ≡ spec.is_stale (known_in facts.now) variable }
 {
     facts.is_done(Fact::Assigned, variable)
@@ -108,7 +108,7 @@ fn is_stale(facts: &Facts, variable: usize) -> bool
 }
 
 /// Whether a variable of a channel is set, and is never put.
-fn is_unput(facts: &Facts, variable: usize) -> bool
+fn is_unput(facts: &VariableFacts, variable: usize) -> bool
     ensures { result ≡ spec.is_unput (known_in facts.now) variable }
 {
     facts.is_done(Fact::Assigned, variable)
@@ -118,7 +118,7 @@ fn is_unput(facts: &Facts, variable: usize) -> bool
 }
 
 /// Whether there is a variable, and it is never read and sets no event flag.
-fn is_unread(facts: &Facts, place: Option<Pos>) -> bool
+fn is_unread(facts: &VariableFacts, place: Option<Pos>) -> bool
     ensures { result ≡ spec.of_meant (spec.is_unread (known_in facts.now)) place }
 {
     match place {
@@ -130,7 +130,7 @@ fn is_unread(facts: &Facts, place: Option<Pos>) -> bool
 }
 
 /// Whether there is a variable, and it is never put with the word `ASYNC`.
-fn is_answered(facts: &Facts, place: Option<Pos>) -> bool
+fn is_answered(facts: &VariableFacts, place: Option<Pos>) -> bool
     ensures { result ≡ spec.of_meant (spec.is_answered (known_in facts.now)) place }
 {
     match place {
@@ -167,7 +167,7 @@ fn push_declared<'a>(
 /// Adds what is remarked at the name in a `monitor`.
 fn push_monitored<'a>(
     token: Token<'a>,
-    facts: &Facts,
+    facts: &VariableFacts,
     uses: &UseTable,
     remarks: &mut Vec<Remark<'a>>,
 ) -> Result<(), AllocError>
@@ -182,7 +182,7 @@ fn push_monitored<'a>(
 fn push_asked<'a>(
     token: Token<'a>,
     query: Query,
-    facts: &Facts,
+    facts: &VariableFacts,
     uses: &UseTable,
     remarks: &mut Vec<Remark<'a>>,
 ) -> Result<(), AllocError>

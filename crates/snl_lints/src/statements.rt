@@ -15,7 +15,7 @@ use crate::constants::{lacks_initial, size_of};
 use crate::expressions::{
     push_condition, push_if_there, push_maybe_condition, push_value, push_values,
 };
-use crate::touches::{Held, Touch, add, push_lacking};
+use crate::touches::{Touch, ValueDomain, add, push_lacking};
 use snl_names::UseTable;
 use snl_resolve::range_of;
 use snl_syntax::{Block, Declaration, Declarator, Header, Initialiser, Stmt, TypeName};
@@ -44,7 +44,7 @@ fn push_initialiser<'a>(
 fn push_declared<'a>(
     found: &mut Vec<Touch<'a>>,
     name: Token<'a>,
-    holding: Held,
+    holding: ValueDomain,
 ) -> Result<(), AllocError>
     ensures { OnOk result (found.new.items ≡ found.old.items
         ++ (Touch.Declares name.entry ∷ Touch.Holds name.entry holding ∷ [])) }
@@ -83,7 +83,7 @@ fn push_declarator<'a>(
         (declarator_view declarator.now)) }
 {
     let range = range_of(type_name);
-    let holding = Held {
+    let holding = ValueDomain {
         range,
         size: size_of(declarator.sizes.as_slice(), uses),
     };

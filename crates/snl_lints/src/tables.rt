@@ -7,9 +7,9 @@ ghost use Rattle.snl_lints.specs.FactTables as spec;
 ghost use Rattle.snl_lints.specs.Lints.{is_shared, known_by};
 
 use crate::doers::{Doers, doers_in, note_program};
-use crate::facts::{Fact, Facts};
+use crate::facts::{Fact, VariableFacts};
 use crate::holdings::note_held_by;
-use crate::touches::{Held, Touch};
+use crate::touches::{Touch, ValueDomain};
 use indexmap::IndexMap;
 use snl_names::UseTable;
 use snl_syntax::Program;
@@ -19,10 +19,10 @@ use std::alloc::{AllocError, Global};
 #[derive(Drop)]
 pub struct Tables {
     /// What is done with each.
-    pub facts: Facts,
+    pub facts: VariableFacts,
     setters: IndexMap<usize, Doers>,
     readers: IndexMap<usize, Doers>,
-    held: IndexMap<usize, Held>,
+    held: IndexMap<usize, ValueDomain>,
 }
 
 impl Tables {
@@ -31,7 +31,7 @@ impl Tables {
         ensures { spec.AreBlank result }
     {
         Tables {
-            facts: Facts::new(alloc),
+            facts: VariableFacts::new(alloc),
             setters: IndexMap::new(alloc),
             readers: IndexMap::new(alloc),
             held: IndexMap::new(alloc),
@@ -47,7 +47,7 @@ impl Tables {
     }
 
     /// What a variable can hold, if that is known.
-    pub fn held(&self, variable: usize) -> Option<Held>
+    pub fn held(&self, variable: usize) -> Option<ValueDomain>
         ensures { result ≡ (spec.known_by_tables self.now).held variable }
     {
         self.held.get(&variable).copied()

@@ -13,7 +13,7 @@ use std::alloc::AllocError;
 
 /// What a variable can hold.
 #[derive(Clone, Copy)]
-pub struct Held {
+pub struct ValueDomain {
     /// The least and the greatest number of its type; none where the type is not supported.
     pub range: Option<(i64, i64)>,
     /// How many elements it has.
@@ -46,7 +46,7 @@ pub enum Touch<'a> {
     /// A clause leads back to its own state, of this name, and leaves an `entry` or `exit` block out.
     Returns(Token<'a>),
     /// A variable or a parameter is declared by this name, and can hold this.
-    Holds(Token<'a>, Held),
+    Holds(Token<'a>, ValueDomain),
     /// An `assign` names a channel, by this text.
     Names(Token<'a>),
     /// An operator faults by its constants.

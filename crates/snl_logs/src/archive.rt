@@ -1,7 +1,7 @@
 //! The CSV of an archiver: `SECONDS,VALUE,SEVERITY,STATUS,NANOSECONDS`, a line a sample, and `TIME,VALUE`.
 
 use crate::fields::{first_field, last_field, unquoted};
-use crate::samples::{LogLine, Said, Sample, Severity, Stamp};
+use crate::samples::{LogLine, Sample, SampleValue, Severity, Stamp};
 use crate::stamps::time_of;
 use crate::texts::{spelled, trimmed_end, trimmed_start};
 
@@ -31,7 +31,7 @@ fn long_line<'l>(name: &'l [u8], line: &'l [u8]) -> Option<Sample<'l>> {
     Some(Sample {
         name,
         stamp: Stamp::At(time),
-        said: Said::Value(unquoted(value), severity),
+        said: SampleValue::Value(unquoted(value), severity),
     })
 }
 
@@ -41,7 +41,7 @@ fn short_line<'l>(name: &'l [u8], line: &'l [u8]) -> Option<Sample<'l>> {
     Some(Sample {
         name,
         stamp: Stamp::At(time_of(unquoted(time))?),
-        said: Said::Value(unquoted(value), Severity::None),
+        said: SampleValue::Value(unquoted(value), Severity::None),
     })
 }
 

@@ -1,6 +1,6 @@
 //! The lines of `camonitor`.
 
-use crate::samples::{LogLine, Said, Sample, Stamp};
+use crate::samples::{LogLine, Sample, SampleValue, Stamp};
 use crate::severities::before_alarm;
 use crate::stamps::{time_at, time_in_brackets};
 use crate::texts::{trimmed_end, trimmed_start, word_of};
@@ -29,16 +29,16 @@ fn first_stamp(text: &[u8]) -> (Stamp, &[u8]) {
 }
 
 /// What is said behind the time: that the channel is not connected, a value, or what is not understood.
-fn said_of(text: &[u8]) -> Option<Said> {
+fn said_of(text: &[u8]) -> Option<SampleValue> {
     match text.strip_prefix(b"*** ") {
         Some(notice) => match trimmed_end(notice) {
-            b"disconnected" => Some(Said::Lost),
-            b"Not connected (PV not found)" => Some(Said::Lost),
+            b"disconnected" => Some(SampleValue::Lost),
+            b"Not connected (PV not found)" => Some(SampleValue::Lost),
             _ => None,
         },
         None => {
             let (value, severity) = before_alarm(text);
-            Some(Said::Value(value, severity))
+            Some(SampleValue::Value(value, severity))
         }
     }
 }

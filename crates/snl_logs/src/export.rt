@@ -1,7 +1,7 @@
 //! The export of one channel by Phoebus or CS-Studio: `TIME VALUE SEVERITY STATUS`, with tabs between.
 
 use crate::fields::{first_field, unquoted};
-use crate::samples::{LogLine, Said, Sample, Severity, Stamp};
+use crate::samples::{LogLine, Sample, SampleValue, Severity, Stamp};
 use crate::severities::severity_named;
 use crate::stamps::time_of;
 use crate::texts::{trimmed_end, trimmed_start};
@@ -26,10 +26,10 @@ fn sample_in<'l>(name: &'l [u8], line: &'l [u8]) -> Option<Sample<'l>> {
     let (value, behind) = next_field(behind);
     let (severity, status) = next_field(behind);
     let said = if unquoted(status) == b"Disconnected".as_slice() {
-        Said::Lost
+        SampleValue::Lost
     } else {
         let severity = severity_named(unquoted(severity)).unwrap_or(Severity::None);
-        Said::Value(unquoted(value), severity)
+        SampleValue::Value(unquoted(value), severity)
     };
     Some(Sample {
         name,

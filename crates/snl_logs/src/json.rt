@@ -1,7 +1,7 @@
 //! The JSON of an archiver, an object a line: a number keeps its digits.
 
 use crate::archive::{nanoseconds, severity_of_number};
-use crate::samples::{LogLine, Said, Sample, Severity, Stamp};
+use crate::samples::{LogLine, Sample, SampleValue, Severity, Stamp};
 use crate::texts::{spelled, trimmed_end, trimmed_start};
 use memchr::memmem;
 
@@ -38,10 +38,10 @@ fn whole(line: &[u8], key: &[u8]) -> Option<u64> {
 }
 
 /// What is said of a channel whose value is this: an array stands in brackets.
-fn said_in(line: &[u8], severity: Severity) -> Option<Said> {
+fn said_in(line: &[u8], severity: Severity) -> Option<SampleValue> {
     match behind_key(line, b"\"val\"")? {
-        [b'[', items @ ..] => Some(Said::Items(up_to(items, b"]")?, severity)),
-        _ => Some(Said::Value(member(line, b"\"val\"")?, severity)),
+        [b'[', items @ ..] => Some(SampleValue::Items(up_to(items, b"]")?, severity)),
+        _ => Some(SampleValue::Value(member(line, b"\"val\"")?, severity)),
     }
 }
 
@@ -68,7 +68,7 @@ pub fn json_loss<'l>(name: &'l [u8], line: &'l [u8]) -> Option<Sample<'l>> {
         seconds => Some(Sample {
             name,
             stamp: Stamp::At(nanoseconds(seconds, 0)?),
-            said: Said::Lost,
+            said: SampleValue::Lost,
         }),
     }
 }

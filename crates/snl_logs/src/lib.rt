@@ -30,12 +30,12 @@ mod values;
 
 pub use clock::{date_digits, day_digits, time_text};
 pub use held::Values;
-pub use log::{Form, Log};
+pub use log::{Log, LogForm};
 pub use numbers::number_of;
 pub use patterns::Pattern;
 pub use places::Scaled;
 pub use rows::Row;
-pub use samples::{Cause, LogLine, Said, Sample, Severity, Stamp};
+pub use samples::{Cause, LogLine, Sample, SampleValue, Severity, Stamp};
 pub use scales::Scale;
 pub use stamps::moment_of;
 pub use units::{Units, Word};

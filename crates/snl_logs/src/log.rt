@@ -14,7 +14,7 @@ use std::alloc::{AllocError, Global};
 
 /// How a log is written.
 #[derive(Clone, Copy, Debug, PartialEq, Eq)]
-pub enum Form {
+pub enum LogForm {
     /// Its first lines do not tell yet.
     Untold,
     /// By `camonitor`, `epics.camonitor` or `caget`, also of a value with no name.
@@ -32,7 +32,7 @@ pub enum Form {
 /// A log that is read line by line.
 #[derive(Drop)]
 pub struct Log {
-    form: Form,
+    form: LogForm,
     /// Whether the line that was noted last told the form.
     is_heading: bool,
     /// The channel that samples are of which name none: as the file is named, or as a heading said.
@@ -42,14 +42,14 @@ pub struct Log {
 }
 
 /// The form that a line tells which has a time in its first column; None where it has none.
-fn form_of_times(line: &[u8]) -> Option<Form> {
+fn form_of_times(line: &[u8]) -> Option<LogForm> {
     if let Some((time, _)) = first_field(line, b',') {
         time_of(unquoted(time))?;
-        return Some(Form::Archive);
+        return Some(LogForm::Archive);
     }
     let (time, _) = first_field(line, b'\t')?;
     time_of(unquoted(time))?;
-    Some(Form::Export)
+    Some(LogForm::Export)
 }
 
 /// Whether a heading stands over times.
@@ -63,34 +63,34 @@ fn is_time(heading: &[u8]) -> bool {
 }
 
 /// The form that the heading of a table tells: its columns behind the first are channels, or what is told of one channel.
-fn form_of_heading(line: &[u8]) -> Option<Form> {
+fn form_of_heading(line: &[u8]) -> Option<LogForm> {
     if let Some((time, behind)) = first_field(line, b'\t') {
         return if !is_time(unquoted(time)) {
             None
         } else if behind.starts_with(b"Value") {
-            Some(Form::Export)
+            Some(LogForm::Export)
         } else {
-            Some(Form::Table(b'\t'))
+            Some(LogForm::Table(b'\t'))
         };
     }
     let (time, _) = first_field(line, b',')?;
     if is_time(unquoted(time)) {
-        Some(Form::Table(b','))
+        Some(LogForm::Table(b','))
     } else {
         None
     }
 }
 
 /// The form that a line tells.
-fn form_of(line: &[u8]) -> Form {
+fn form_of(line: &[u8]) -> LogForm {
     let bare = trimmed_end(trimmed_start(line));
     match bare {
-        [] => Form::Untold,
-        [b'[' | b'{', ..] => Form::Json,
-        [b'#', behind @ ..] => form_of_heading(behind).unwrap_or(Form::Untold),
+        [] => LogForm::Untold,
+        [b'[' | b'{', ..] => LogForm::Json,
+        [b'#', behind @ ..] => form_of_heading(behind).unwrap_or(LogForm::Untold),
         _ => form_of_times(bare)
             .or_else(|| form_of_heading(bare))
-            .unwrap_or(Form::Camonitor),
+            .unwrap_or(LogForm::Camonitor),
     }
 }
 
@@ -98,7 +98,7 @@ impl Log {
     /// A log of which nothing was read. Where its lines name no channel, they are of the one that the file is named after.
     pub fn new(alloc: Global, channel: &[u8]) -> Result<Log, AllocError> {
         Ok(Log {
-            form: Form::Untold,
+            form: LogForm::Untold,
             is_heading: false,
             channel: Vec::from_slice(alloc, channel)?,
             columns: Vec::new(alloc),
@@ -106,38 +106,38 @@ impl Log {
     }
 
     /// How the log is written, as far as its lines told.
-    pub fn form(&self) -> Form {
+    pub fn form(&self) -> LogForm {
         self.form
     }
 
     /// Whether its lines told how it is written.
     pub fn is_told(&self) -> bool {
-        self.form != Form::Untold
+        self.form != LogForm::Untold
     }
 
     /// Whether it may have one channel behind the other, as far as its lines told: then its times go back where another one begins.
     pub fn is_parted(&self) -> bool {
-        self.form == Form::Json || self.form == Form::Export
+        self.form == LogForm::Json || self.form == LogForm::Export
     }
 
     /// Whether the line that was noted last names the channel of those behind it.
     pub fn is_named_by(&self, line: &[u8]) -> bool {
         let line = without_end(line);
         match self.form {
-            Form::Untold | Form::Export => channel_in(line).is_some(),
-            Form::Json => name_in(line).is_some(),
-            Form::Camonitor | Form::Archive | Form::Table(_) => false,
+            LogForm::Untold | LogForm::Export => channel_in(line).is_some(),
+            LogForm::Json => name_in(line).is_some(),
+            LogForm::Camonitor | LogForm::Archive | LogForm::Table(_) => false,
         }
     }
 
     /// Notes what the next line says of those behind it: the form of the log, or a channel. The line may have what ends it.
     pub fn note(&mut self, alloc: Global, line: &[u8]) -> Result<(), AllocError> {
         let line = without_end(line);
-        self.is_heading = self.form == Form::Untold;
+        self.is_heading = self.form == LogForm::Untold;
         match self.form {
-            Form::Untold => self.note_form(alloc, line),
-            Form::Json => self.note_name(name_in(line)),
-            Form::Export => self.note_name(channel_in(line)),
+            LogForm::Untold => self.note_form(alloc, line),
+            LogForm::Json => self.note_name(name_in(line)),
+            LogForm::Export => self.note_name(channel_in(line)),
             _ => Ok(()),
         }
     }
@@ -146,11 +146,11 @@ impl Log {
     fn note_form(&mut self, alloc: Global, line: &[u8]) -> Result<(), AllocError> {
         self.form = form_of(line);
         match self.form {
-            Form::Table(mark) => {
+            LogForm::Table(mark) => {
                 self.columns = columns_of(alloc, line, mark)?;
                 Ok(())
             }
-            Form::Json => self.note_name(name_in(line)),
+            LogForm::Json => self.note_name(name_in(line)),
             _ => self.note_name(channel_in(line)),
         }
     }
@@ -167,7 +167,7 @@ impl Log {
     /// That a channel was lost before what the line says that was noted last, where the line tells so.
     pub fn lost<'l>(&'l self, line: &'l [u8]) -> Option<Sample<'l>> {
         match self.form {
-            Form::Json => json_loss(self.channel.as_slice(), line),
+            LogForm::Json => json_loss(self.channel.as_slice(), line),
             _ => None,
         }
     }
@@ -176,16 +176,16 @@ impl Log {
     pub fn said<'l>(&'l self, line: &'l [u8]) -> LogLine<'l> {
         let line = without_end(line);
         match self.form {
-            Form::Untold => LogLine::Silent,
-            Form::Camonitor => match polled_sample(self.channel.as_slice(), line) {
+            LogForm::Untold => LogLine::Silent,
+            LogForm::Camonitor => match polled_sample(self.channel.as_slice(), line) {
                 Some(sample) => LogLine::Sample(sample),
                 None => camonitor_line(line),
             },
-            Form::Archive => archive_line(self.channel.as_slice(), line),
-            Form::Json => json_line(self.channel.as_slice(), line),
-            Form::Export => export_line(self.channel.as_slice(), line),
-            Form::Table(_) if self.is_heading => LogLine::Silent,
-            Form::Table(mark) => table_line(self.columns.as_slice(), line, mark),
+            LogForm::Archive => archive_line(self.channel.as_slice(), line),
+            LogForm::Json => json_line(self.channel.as_slice(), line),
+            LogForm::Export => export_line(self.channel.as_slice(), line),
+            LogForm::Table(_) if self.is_heading => LogLine::Silent,
+            LogForm::Table(mark) => table_line(self.columns.as_slice(), line, mark),
         }
     }
 }

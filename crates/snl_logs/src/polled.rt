@@ -1,7 +1,7 @@
 //! Values that `caget -t` wrote: alone, or behind a time that a script wrote in front.
 
 use crate::numbers::number_of;
-use crate::samples::{Cause, Said, Sample, Severity, Stamp};
+use crate::samples::{Cause, Sample, SampleValue, Severity, Stamp};
 use crate::scales::Scale;
 use crate::stamps::{date_at, time_of};
 use crate::texts::{digits_of, is_blank, trimmed_end, trimmed_start, word_of};
@@ -55,6 +55,6 @@ pub fn polled_sample<'l>(name: &'l [u8], line: &'l [u8]) -> Option<Sample<'l>> {
     Some(Sample {
         name,
         stamp,
-        said: Said::Value(value, Severity::None),
+        said: SampleValue::Value(value, Severity::None),
     })
 }

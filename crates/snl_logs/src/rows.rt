@@ -3,7 +3,7 @@
 ghost use Rattle.std.specs.Prelude.{◌<◌, length, IfSome};
 
 use crate::fields::{first_field, unquoted};
-use crate::samples::{Said, Sample, Severity, Stamp};
+use crate::samples::{Sample, SampleValue, Severity, Stamp};
 
 /// A line of a table: a time, and a cell for each column.
 #[derive(Clone, Copy, Debug)]
@@ -65,6 +65,6 @@ fn sample_of<'l>(name: &'l [u8], stamp: Stamp, cell: &'l [u8]) -> Option<Sample<
     Some(Sample {
         name,
         stamp,
-        said: Said::Value(cell, Severity::None),
+        said: SampleValue::Value(cell, Severity::None),
     })
 }

@@ -36,7 +36,7 @@ pub enum Severity {
 
 /// What is said of a channel.
 #[derive(Clone, Copy, Debug)]
-pub enum Said<'l> {
+pub enum SampleValue<'l> {
     /// Its value as the log spells it, and its alarm. Of several values their number comes first.
     Value(&'l [u8], Severity),
     /// Its values, with commas between them, and its alarm.
@@ -53,7 +53,7 @@ pub struct Sample<'l> {
     /// When.
     pub stamp: Stamp,
     /// What.
-    pub said: Said<'l>,
+    pub said: SampleValue<'l>,
 }
 
 impl<'l> Sample<'l> {

@@ -3,7 +3,7 @@
 use crate::advice::Advice;
 use crate::columns::Columns;
 use crate::excerpts::push_excerpt;
-use crate::forms::{Form, Name, Note, Said, Sheet, condition_of, letter_of, severity_of};
+use crate::forms::{Diagnostic, Name, Note, NoteForm, Sheet, condition_of, letter_of, severity_of};
 use crate::helps::{Help, push_all, push_help, push_three, push_words};
 use crate::objects::push_object;
 use itoa::Buffer;
@@ -19,7 +19,7 @@ fn push_place(out: &mut Vec<u8>, note: Note) -> Result<(), AllocError> {
 }
 
 /// Adds the number of a message, or the name of a lint.
-fn push_name(out: &mut Vec<u8>, said: Said) -> Result<(), AllocError> {
+fn push_name(out: &mut Vec<u8>, said: Diagnostic) -> Result<(), AllocError> {
     match said.name {
         Name::Lint(name) => push_all(out, &[name]),
         Name::Number(number) => {
@@ -32,7 +32,7 @@ fn push_name(out: &mut Vec<u8>, said: Said) -> Result<(), AllocError> {
 }
 
 /// Adds what is said, behind its number; what holds only once something is mended is called a note.
-fn push_said(out: &mut Vec<u8>, said: Said) -> Result<(), AllocError> {
+fn push_said(out: &mut Vec<u8>, said: Diagnostic) -> Result<(), AllocError> {
     if said.is_behind {
         push_all(out, &[b"note: ", condition_of(said)])?;
     }
@@ -103,7 +103,7 @@ pub fn push_note(
     out: &mut Vec<u8>,
     sheet: Sheet,
     columns: &mut Columns,
-    said: Said,
+    said: Diagnostic,
     advice: Advice,
 ) -> Result<(), AllocError> {
     let note = Note {
@@ -113,8 +113,8 @@ pub fn push_note(
         advice,
     };
     match sheet.form {
-        Form::Text => push_block(out, sheet.text.source, note),
-        Form::Gcc => push_lines(out, note),
-        Form::Json => push_object(sheet.alloc, out, columns, note),
+        NoteForm::Text => push_block(out, sheet.text.source, note),
+        NoteForm::Gcc => push_lines(out, note),
+        NoteForm::Json => push_object(sheet.alloc, out, columns, note),
     }
 }

@@ -2,16 +2,16 @@
 
 use crate::advice::Edit;
 use crate::helps::Help;
-use snl_cures::{Cure, Piece};
+use snl_cures::{Cure, CureToken};
 use snl_text::{Kind, Token};
 
 /// Whether a piece stands for any of its sort.
-fn is_any(piece: Piece) -> bool {
+fn is_any(piece: CureToken) -> bool {
     matches!(piece.kind, Kind::Name | Kind::Whole | Kind::Text)
 }
 
 /// Whether a piece is a word.
-fn is_word(piece: Piece) -> bool {
+fn is_word(piece: CureToken) -> bool {
     match piece.text.first() {
         Some(byte) => byte.is_ascii_alphabetic(),
         None => false,
@@ -19,7 +19,7 @@ fn is_word(piece: Piece) -> bool {
 }
 
 /// Whether a piece stands close behind what it ends.
-fn ends(piece: Piece) -> bool {
+fn ends(piece: CureToken) -> bool {
     matches!(
         piece.kind,
         Kind::Semicolon | Kind::CloseParenthesis | Kind::CloseBracket | Kind::Comma
@@ -33,7 +33,7 @@ fn token_before<'a>(tokens: &[Token<'a>], at: usize) -> Option<Token<'a>> {
 }
 
 /// The line at whose end a piece is missing: it ends something, and its line is above that of the token of a number.
-fn line_above(tokens: &[Token], at: usize, piece: Piece) -> Option<usize> {
+fn line_above(tokens: &[Token], at: usize, piece: CureToken) -> Option<usize> {
     let before = token_before(tokens, at)?;
     let token = tokens.get(at)?;
     if ends(piece) && before.pos.line < token.pos.line && before.pos.file == token.pos.file {
@@ -53,12 +53,12 @@ fn any_missing<'a>(kind: Kind) -> Help<'a> {
 }
 
 /// What stands in front of a piece that may be missing.
-fn missing(piece: Piece) -> &'static [u8] {
+fn missing(piece: CureToken) -> &'static [u8] {
     if is_word(piece) { b"is '" } else { b"is a '" }
 }
 
 /// That a piece is missing.
-fn missing_help<'a>(tokens: &[Token], at: usize, piece: Piece) -> Help<'a> {
+fn missing_help<'a>(tokens: &[Token], at: usize, piece: CureToken) -> Help<'a> {
     if is_any(piece) {
         return any_missing(piece.kind);
     }
@@ -78,7 +78,7 @@ fn missing_help<'a>(tokens: &[Token], at: usize, piece: Piece) -> Help<'a> {
 }
 
 /// That a piece stands in the place of a token.
-fn instead_help<'a>(piece: Piece) -> Help<'a> {
+fn instead_help<'a>(piece: CureToken) -> Help<'a> {
     match piece.kind {
         Kind::Name => Help::Words(b"should it be a name?"),
         Kind::Whole => Help::Words(b"should it be a value?"),
@@ -102,12 +102,12 @@ pub fn cure_help<'a>(tokens: &[Token], at: usize, cure: Cure) -> Help<'a> {
 }
 
 /// A blank round a word.
-fn blank_of(piece: Piece) -> &'static [u8] {
+fn blank_of(piece: CureToken) -> &'static [u8] {
     if is_word(piece) { b" " } else { b"" }
 }
 
 /// A blank behind a piece that stands in front of something.
-fn blank_behind(piece: Piece) -> &'static [u8] {
+fn blank_behind(piece: CureToken) -> &'static [u8] {
     match piece.kind {
         Kind::OpenParenthesis | Kind::OpenBracket => b"",
         _ => b" ",
@@ -115,7 +115,7 @@ fn blank_behind(piece: Piece) -> &'static [u8] {
 }
 
 /// A change that puts a piece behind the token of a number.
-fn put_behind(before: Token, piece: Piece) -> Edit {
+fn put_behind(before: Token, piece: CureToken) -> Edit {
     Edit {
         offset: before.pos.offset.saturating_add(before.text.len()),
         line: before.pos.line,
@@ -125,7 +125,7 @@ fn put_behind(before: Token, piece: Piece) -> Edit {
 }
 
 /// A change that puts a piece in front of a token.
-fn put_before(token: Token, piece: Piece) -> Edit {
+fn put_before(token: Token, piece: CureToken) -> Edit {
     Edit {
         offset: token.pos.offset,
         line: token.pos.line,
@@ -135,7 +135,7 @@ fn put_before(token: Token, piece: Piece) -> Edit {
 }
 
 /// A change that puts a piece: what ends something stands close behind the token in front, and so does what ends the source.
-fn put_edit(tokens: &[Token], at: usize, piece: Piece) -> Option<Edit> {
+fn put_edit(tokens: &[Token], at: usize, piece: CureToken) -> Option<Edit> {
     let before = token_before(tokens, at)?;
     match tokens.get(at) {
         None => Some(put_behind(before, piece)),

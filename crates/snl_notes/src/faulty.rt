@@ -4,7 +4,7 @@ use crate::advice::Advice;
 use crate::blocks::push_note;
 use crate::bytes::{byte_help, number_help};
 use crate::columns::Columns;
-use crate::forms::{Name, Said, Sheet};
+use crate::forms::{Diagnostic, Name, Sheet};
 use crate::helps::Help;
 use crate::notes::Read;
 use snl_check::Severity;
@@ -35,7 +35,7 @@ fn push_fault(out: &mut Vec<u8>, sheet: Sheet, fault: LexFault) -> Result<(), Al
     let (Some(words), Some(pos)) = (fault.text(), fault.pos()) else {
         return Err(AllocError);
     };
-    let said = Said {
+    let said = Diagnostic {
         pos,
         length: 1,
         severity: Severity::Error,

@@ -8,7 +8,7 @@ use std::alloc::Global;
 
 /// How notes are written: docs/tools/check.md has each form.
 #[derive(Clone, Copy)]
-pub enum Form {
+pub enum NoteForm {
     /// A block of lines.
     Text,
     /// A line for a place, and one for what helps, as compilers write them.
@@ -25,7 +25,7 @@ pub struct Sheet<'t, 'a> {
     /// The source and the names of its files.
     pub text: Text<'t, 'a>,
     /// How they are written.
-    pub form: Form,
+    pub form: NoteForm,
 }
 
 /// What a note is called by.
@@ -39,7 +39,7 @@ pub enum Name<'s> {
 
 /// What is said of a place.
 #[derive(Clone, Copy)]
-pub struct Said<'s> {
+pub struct Diagnostic<'s> {
     /// The place.
     pub pos: Pos,
     /// How many bytes it is said of.
@@ -62,7 +62,7 @@ pub struct Note<'s> {
     /// The column of the place.
     pub column: usize,
     /// What is said.
-    pub said: Said<'s>,
+    pub said: Diagnostic<'s>,
     /// What stands below it.
     pub advice: Advice<'s>,
 }
@@ -77,7 +77,7 @@ pub fn letter_of(severity: Severity, number: u8) -> &'static [u8] {
 }
 
 /// How grave it is, as compilers call it: what holds only once something is mended is a note.
-pub fn severity_of(said: Said) -> &'static [u8] {
+pub fn severity_of(said: Diagnostic) -> &'static [u8] {
     match said.severity {
         _ if said.is_behind => b"note",
         Severity::Error => b"error",
@@ -86,7 +86,7 @@ pub fn severity_of(said: Said) -> &'static [u8] {
 }
 
 /// What stands in front of a text that holds only once something is mended.
-pub fn condition_of(said: Said) -> &'static [u8] {
+pub fn condition_of(said: Diagnostic) -> &'static [u8] {
     if said.is_behind {
         b"once that is mended, "
     } else {

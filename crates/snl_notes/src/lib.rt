@@ -23,6 +23,6 @@ mod remarked;
 mod syntax;
 mod tokens;
 
-pub use forms::Form;
+pub use forms::NoteForm;
 pub use notes::{Read, notes_of};
 pub use remarked::objects_of;

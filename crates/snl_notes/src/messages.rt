@@ -3,7 +3,7 @@
 use crate::advice::Advice;
 use crate::blocks::push_note;
 use crate::columns::Columns;
-use crate::forms::{Name, Said, Sheet};
+use crate::forms::{Diagnostic, Name, Sheet};
 use crate::helps::Help;
 use crate::numbered::error_help;
 use crate::tokens::number_from;
@@ -101,7 +101,7 @@ fn push_message(
     };
     reached.at = at;
     reached.count = reached.count.saturating_add(1);
-    let said = Said {
+    let said = Diagnostic {
         pos: message.pos,
         length: length_at(tokens, at, message.pos.offset),
         severity: message.severity,

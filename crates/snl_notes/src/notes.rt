@@ -1,7 +1,7 @@
 //! The notes on a source: one for each message about it.
 
 use crate::faulty::fault_notes;
-use crate::forms::{Form, Sheet};
+use crate::forms::{NoteForm, Sheet};
 use crate::messages::push_messages;
 use crate::refused::{push_refused, push_too_deep};
 use snl_check::{Message, Options};
@@ -82,7 +82,7 @@ pub struct Read<'s> {
     /// The word of the call that names it.
     pub file: &'s [u8],
     /// How the notes are written.
-    pub form: Form,
+    pub form: NoteForm,
 }
 
 /// A note on each message about a source, under the options of a call, in the order of the messages. docs/tools/check.md has the forms.

@@ -2,7 +2,7 @@
 
 use crate::advice::{Advice, Edit};
 use crate::columns::Columns;
-use crate::forms::{Name, Note, Said, letter_of, severity_of};
+use crate::forms::{Diagnostic, Name, Note, letter_of, severity_of};
 use crate::helps::{Help, push_all, push_words};
 use itoa::Buffer;
 use serde_json::Value;
@@ -38,7 +38,7 @@ fn push_place(alloc: Global, out: &mut Vec<u8>, note: Note) -> Result<(), AllocE
 }
 
 /// Adds the number of a message, or the name of a lint.
-fn push_name(out: &mut Vec<u8>, said: Said) -> Result<(), AllocError> {
+fn push_name(out: &mut Vec<u8>, said: Diagnostic) -> Result<(), AllocError> {
     match said.name {
         Name::Lint(name) => push_all(out, &[name]),
         Name::Number(number) => push_number(
@@ -50,7 +50,7 @@ fn push_name(out: &mut Vec<u8>, said: Said) -> Result<(), AllocError> {
 }
 
 /// Adds what is said.
-fn push_said(alloc: Global, out: &mut Vec<u8>, said: Said) -> Result<(), AllocError> {
+fn push_said(alloc: Global, out: &mut Vec<u8>, said: Diagnostic) -> Result<(), AllocError> {
     push_all(
         out,
         &[b",\"severity\":\"", severity_of(said), b"\",\"name\":\""],

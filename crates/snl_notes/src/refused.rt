@@ -4,7 +4,7 @@ use crate::advice::Advice;
 use crate::blocks::push_note;
 use crate::columns::Columns;
 use crate::cures::{cure_edit, cure_help};
-use crate::forms::{Name, Said, Sheet};
+use crate::forms::{Diagnostic, Name, Sheet};
 use crate::helps::{Help, push_all, push_three};
 use crate::syntax::{semicolon_help_at, syntax_help};
 use snl_check::Severity;
@@ -70,7 +70,7 @@ fn push_fault(
     let token = lexed.tokens.get(fault.at);
     let mut text = Vec::new(sheet.alloc);
     push_text(&mut text, fault.why, token)?;
-    let said = Said {
+    let said = Diagnostic {
         pos: place_of(token, lexed.eof),
         length: length_of(token),
         severity: Severity::Error,

@@ -3,7 +3,7 @@
 use crate::advice::Advice;
 use crate::blocks::push_note;
 use crate::columns::Columns;
-use crate::forms::{Form, Name, Said, Sheet};
+use crate::forms::{Diagnostic, Name, NoteForm, Sheet};
 use crate::helps::push_all;
 use snl_check::Severity;
 use snl_lints::{Remark, Text, is_silenced, name_of, words_of};
@@ -23,7 +23,7 @@ fn push_remark(
 ) -> Result<(), AllocError> {
     let mut text = Vec::new(sheet.alloc);
     push_quoted(&mut text, remark.token.text, words_of(remark.lint))?;
-    let said = Said {
+    let said = Diagnostic {
         pos: remark.token.pos,
         length: remark.token.text.len(),
         severity: Severity::Warning,
@@ -60,7 +60,7 @@ pub fn objects_of(
     let sheet = Sheet {
         alloc,
         text,
-        form: Form::Json,
+        form: NoteForm::Json,
     };
     let mut out = Vec::new(alloc);
     let mut columns = Columns::new(text.source);

@@ -14,7 +14,7 @@ const OTHERS_KEPT: usize = 1_000;
 
 /// What a trace says of what the file says.
 #[derive(Drop)]
-pub(crate) enum Told {
+pub(crate) enum UnitVerdict {
     /// Nothing yet.
     Nothing,
     /// The same.
@@ -30,7 +30,7 @@ pub struct Comparison<'u> {
     alloc: Global,
     pub(crate) units: &'u [ChannelUnits],
     /// By the units of the file.
-    pub(crate) told: Vec<Told>,
+    pub(crate) told: Vec<UnitVerdict>,
     /// What the trace tells of which the file says nothing.
     pub(crate) others: Vec<ChannelUnits>,
     /// How many more of these there are.
@@ -76,7 +76,7 @@ impl<'u> Comparison<'u> {
     pub fn new(alloc: Global, units: &'u [ChannelUnits]) -> Result<Self, AllocError> {
         let mut told = Vec::with_capacity(alloc, units.len())?;
         for _unit in units {
-            told.push(Told::Nothing)?;
+            told.push(UnitVerdict::Nothing)?;
         }
         Ok(Comparison {
             alloc,
@@ -156,9 +156,9 @@ impl<'u> Comparison<'u> {
         let is_same = are_same(&one.unit, &unit);
         if let Some(told) = self.told.get_mut(place) {
             if !is_same {
-                *told = Told::Other(unit);
-            } else if matches!(told, Told::Nothing) {
-                *told = Told::Same;
+                *told = UnitVerdict::Other(unit);
+            } else if matches!(told, UnitVerdict::Nothing) {
+                *told = UnitVerdict::Same;
             }
         }
     }

@@ -1,6 +1,6 @@
 //! Where the units of a trace and those of a file differ, as lines for a user.
 
-use crate::comparing::{Comparison, Told, is_compared};
+use crate::comparing::{Comparison, UnitVerdict, is_compared};
 use crate::units::{ChannelUnits, Unit};
 use crate::written::push_unit;
 use itoa::Buffer;
@@ -44,7 +44,11 @@ fn push_more(out: &mut Vec<u8>, front: &[u8], more: u64) -> Result<(), AllocErro
 impl Comparison<'_> {
     /// Whether the trace tells a unit.
     fn has_told(&self) -> bool {
-        !self.others.is_empty() || !self.told.iter().all(|told| matches!(told, Told::Nothing))
+        !self.others.is_empty()
+            || !self
+                .told
+                .iter()
+                .all(|told| matches!(told, UnitVerdict::Nothing))
     }
 
     /// Whether the file says something that a trace says.
@@ -55,9 +59,9 @@ impl Comparison<'_> {
     /// What the trace says in the place of what the file says at a place; None where that is the same.
     fn other_at(&self, place: usize, one: &ChannelUnits) -> Option<Option<&Unit>> {
         match self.told.get(place)? {
-            Told::Other(unit) => Some(Some(unit)),
-            Told::Nothing if is_compared(&one.unit) => Some(None),
-            Told::Nothing | Told::Same => None,
+            UnitVerdict::Other(unit) => Some(Some(unit)),
+            UnitVerdict::Nothing if is_compared(&one.unit) => Some(None),
+            UnitVerdict::Nothing | UnitVerdict::Same => None,
         }
     }
 

@@ -1,7 +1,7 @@
 use Rattle.snl_names.specs.UseTables.{declared_at}
 use Rattle.snl_lints.specs.Facts.{is_done}
 use Rattle.snl_lints.proofs.FactLaws.{all_known}
-use Rattle.snl_lints.proofs.facts.Facts.note_all.Goals as goal
+use Rattle.snl_lints.proofs.facts.VariableFacts.note_all.Goals as goal
 
 pub returns : goal.returns
 returns c =
