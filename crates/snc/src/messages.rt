@@ -158,20 +158,20 @@ fn tree_judged<'a>(
     let Outcome {
         messages: said,
         checked,
-    } = check(&alloc, program, given)?;
-    let checked = boxed(&alloc, checked)?;
+    } = check(alloc, program, given)?;
+    let checked = boxed(alloc, checked)?;
     let mut messages = Vec::new(alloc);
     push_lines(&mut messages, names, said.as_slice())?;
     Ok(Judgement { messages, checked })
 }
 
-/// What is there, in a box. The allocator is lent, so that what is there has the same numbers among the lifetimes here as where it is made.
-fn boxed<T: Drop>(alloc: &Global, value: Option<T>) -> Result<Option<Box<T>>, AllocError>
+/// What is there, in a box.
+fn boxed<T: Drop>(alloc: Global, value: Option<T>) -> Result<Option<Box<T>>, AllocError>
     ensures { IfOk result (λ held. option_map (λ b. b.value) held ≡ value) }
 {
     match value {
         Some(value) => {
-            let held = Box::new(*alloc, value)?;
+            let held = Box::new(alloc, value)?;
             Ok(Some(held))
         }
         None => Ok(None),

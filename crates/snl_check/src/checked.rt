@@ -11,7 +11,7 @@ ghost use Rattle.snl_messages.specs.Silence as silence;
 ghost use Rattle.snl_check.specs.Accepted.{IsAccepted};
 ghost use Rattle.snl_check.specs.Waits.{waits};
 
-use crate::findings::{Findings, findings_of};
+use crate::findings::{Examined, Findings, examine_owned};
 use snl_messages::Message;
 use snl_resolve::{Options, UseTable};
 use snl_syntax::Program;
@@ -96,9 +96,9 @@ pub struct Outcome<'a> {
 /// where none of them is an error (SNL Reference; Compiling SNL Programs, "Options").
 ///
 /// Fails only where the messages, or the tables that find them, found no room in memory; the program
-/// is dropped then. The allocator is lent, so that the program has the same number among the lifetimes as where its tokens are lent.
+/// is dropped then.
 pub fn check<'a>(
-    alloc: &Global,
+    alloc: Global,
     program: Program<'a>,
     given: Options,
 ) -> Result<Outcome<'a>, AllocError>
@@ -112,7 +112,7 @@ pub fn check<'a>(
     ensures options { IfOk result (λ o. IfSome o.checked (λ c. c.options
         ≡ silence.options_in_force (program_view program.entry) given)) }
 {
-    let findings = findings_of(*alloc, &program, given)?;
+    let Examined { program, findings } = examine_owned(alloc, program, given)?;
     let is_accepted = findings.are_accepted();
     let Findings {
         messages,

@@ -4,6 +4,8 @@ ghost use Rattle.std.specs.Prelude.{◌≡◌, map, IfOk};
 ghost use Rattle.snl_messages.specs.Messages.{said};
 ghost use Rattle.snl_check.specs.Accepted.{has_no_error};
 ghost use Rattle.snl_check.specs.Findings.{AreFindings};
+ghost use Rattle.snl_check.specs.declared.findings.Findings as declared;
+ghost use Rattle.snl_names.specs.declared.options.Options as sites;
 
 use snl_messages::{Message, Severity, messages_and_uses, options_in_force};
 use snl_resolve::{Options, UseTable};
@@ -43,7 +45,7 @@ fn has_no_error(messages: &[Message]) -> bool
 }
 
 /// Finds the messages of a program where these options are given with it, and what its names mean.
-pub fn findings_of(alloc: Global, program: &Program, given: Options) -> Result<Findings, AllocError>
+fn findings_of(alloc: Global, program: &Program, given: Options) -> Result<Findings, AllocError>
     ensures { IfOk result (AreFindings program.now given) }
 {
     let (messages, uses) = messages_and_uses(alloc, program, given)?;
@@ -53,4 +55,45 @@ pub fn findings_of(alloc: Global, program: &Program, given: Options) -> Result<F
         options,
         uses,
     })
+}
+
+/// What findings can be made of while it is lent. A function that owns a whole program and lends it
+/// is dear to prove; one that owns a value of a type parameter is not.
+pub trait HasFindings {
+    ghost found: { Self → sites.Options → declared.Findings → Type 0 };
+
+    /// The findings, where these options are given.
+    fn examine(&self, alloc: Global, given: Options) -> Result<Findings, AllocError>
+        ensures { IfOk result (found self.now given) };
+}
+
+impl<'a> HasFindings for Program<'a> {
+    ghost found = { AreFindings };
+
+    fn examine(&self, alloc: Global, given: Options) -> Result<Findings, AllocError> {
+        findings_of(alloc, self, given)
+    }
+}
+
+/// A program with what is found of it.
+#[derive(Drop)]
+pub struct Examined<T> {
+    /// The program.
+    pub program: T,
+    /// What is found of it.
+    pub findings: Findings,
+}
+
+/// Finds what there is of a program where these options are given with it, and hands the program on.
+/// The only error is that memory ends; the program is dropped then.
+pub fn examine_owned<T: HasFindings + Drop>(
+    alloc: Global,
+    program: T,
+    given: Options,
+) -> Result<Examined<T>, AllocError>
+    ensures same { IfOk result (λ e. e.program ≡ program) }
+    ensures found { IfOk result (λ e. T.found program given e.findings) }
+{
+    let findings = program.examine(alloc, given)?;
+    Ok(Examined { program, findings })
 }

@@ -8,18 +8,19 @@ use Rattle.snl_check.proofs.checked.check.Goals.{then-is_accepted, else-is_accep
 
 pub invariant_of-checked : goal.invariant_of-checked
 invariant_of-checked c =
-    let f = c.in_ok-findings.findings in
-    let found = c.in_ok-findings.ensures in
-    let all : has_no_error (map said f.messages.items) ≡ true = sym c.are_accepted-is_accepted.ensures ∙ c.if-is_accepted.true in
+    let e = c.in_ok-program.field-0 in
+    let found = c.in_ok-program.ensures.found in
+    let same = c.in_ok-program.ensures.same in
+    let all : has_no_error (map said e.findings.messages.items) ≡ true = sym c.are_accepted-is_accepted.ensures ∙ c.if-is_accepted.true in
     record {
-      accepted = accepted_found c.args.program c.args.given f found c.args.program refl all;
-      bound = uses_found c.args.program c.args.given f found c.args.program refl;
+      accepted = accepted_found c.args.program c.args.given e.findings found e.program same all;
+      bound = uses_found c.args.program c.args.given e.findings found e.program same;
     }
 
 pub returns-clause-accepted : goal.returns-clause-accepted
 returns-clause-accepted c =
-    let f = c.in_ok-findings.findings in
-    let found = c.in_ok-findings.ensures in
+    let f = c.in_ok-program.field-0.findings in
+    let found = c.in_ok-program.ensures.found in
     elim c.if-is_accepted.branch [
       | then-is_accepted w ↦
           let all : has_no_error (map said f.messages.items) ≡ true = sym c.are_accepted-is_accepted.ensures ∙ w.if-is_accepted.true in
