@@ -1,6 +1,6 @@
 //! The programs of a folder and their tests, by the names of its files.
 
-use crate::fitting::program_of;
+use crate::program_match::program_of;
 use std::alloc::{AllocError, Global};
 
 /// A test: a trace of a program and the output that is wanted of it. Its files have one stem, that of the program, or one with a day

@@ -3,7 +3,7 @@ use Rattle.std.specs.Option.{option_map}
 use denote.Ref.{Bor}
 use Rattle.snl_suite.specs.Fitting.{IsProgramOf}
 use Rattle.snl_suite.proofs.FittingLaws.{program-first, program-longer, program-other}
-use Rattle.snl_suite.proofs.fitting.better.Goals as goal
+use Rattle.snl_suite.proofs.program_match.better.Goals as goal
 
 pub returns-then-not-fits : goal.returns-then-not-fits
 returns-then-not-fits c =

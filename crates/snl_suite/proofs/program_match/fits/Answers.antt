@@ -2,7 +2,7 @@ use Rattle.std.proofs.Common.{None, Some}
 use Rattle.std.proofs.lemmas.Bool.Decides.{Decides-eqb}
 use Rattle.std.proofs.lemmas.Slice.Eq.{strip_prefix_is}
 use Rattle.snl_suite.proofs.FittingLaws.{fits-by, fits-not}
-use Rattle.snl_suite.proofs.fitting.fits.Goals as goal
+use Rattle.snl_suite.proofs.program_match.fits.Goals as goal
 
 pub returns-in-Some : goal.returns-in-Some
 returns-in-Some c =

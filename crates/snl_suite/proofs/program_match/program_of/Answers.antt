@@ -4,7 +4,7 @@ use Rattle.std.proofs.lemmas.List.{length-map, take_all}
 use denote.Ref.{Bor}
 use Rattle.snl_suite.specs.Fitting.{IsProgramOf}
 use Rattle.snl_suite.proofs.FittingLaws.{names-more}
-use Rattle.snl_suite.proofs.fitting.program_of.Goals as goal
+use Rattle.snl_suite.proofs.program_match.program_of.Goals as goal
 
 pub loop-name-preserved : goal.loop-name-preserved
 loop-name-preserved c =
