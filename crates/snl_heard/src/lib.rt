@@ -9,7 +9,7 @@ pub mod laws;
 mod page;
 mod texts;
 mod words;
-mod writing;
+mod writer;
 
 pub use heard::heard_of;
 pub use page::Page;

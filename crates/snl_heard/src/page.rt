@@ -5,7 +5,7 @@ ghost use Rattle.std.proofs.Props.{props};
 ghost use Rattle.snl_heard.specs.Printed.{IsPrinted};
 
 use crate::texts::{WATCH, is_line, is_plain};
-use crate::writing::write_pieces;
+use crate::writer::write_pieces;
 use snl_output::{Sink, SinkFault};
 use snl_past::Past;
 
