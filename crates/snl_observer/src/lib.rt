@@ -5,26 +5,26 @@
 #![tactic(auto)]
 
 mod closes;
-mod doing;
-mod hearing;
+mod current_states;
 pub mod laws;
+mod line_step;
 mod lines;
-mod loading;
+mod loader;
 mod logs;
+mod observation;
 mod pages;
 mod programs;
-mod reading;
-mod standing;
-mod stepping;
-mod telling;
+mod report;
+mod requirement_input;
+mod requirement_output;
 mod trail;
-mod writing;
+mod watched_step;
 
 pub use closes::{Close, Ending};
-pub use doing::{Done, line_done};
+pub use current_states::ForbiddenState;
+pub use line_step::{Done, line_done};
 pub use lines::{LineHeard, line_heard};
-pub use loading::program_of;
+pub use loader::program_of;
+pub use observation::{Observed, observe};
 pub use pages::TextSink;
 pub use programs::Program;
-pub use reading::{Observed, observe};
-pub use standing::ForbiddenState;

@@ -6,11 +6,11 @@ ghost use Rattle.snl_observer.specs.Heard.{heard_told};
 ghost use Rattle.snl_observer.specs.Lasting.{HearsSo, lasting_of};
 
 use crate::closes::Ending;
-use crate::doing::Done;
-use crate::hearing::hear_done;
+use crate::current_states::Standing;
+use crate::line_step::Done;
 use crate::logs::Log;
 use crate::programs::Program;
-use crate::standing::Standing;
+use crate::requirement_input::hear_done;
 use snl_heard::Page;
 use snl_output::Sink;
 use std::alloc::{AllocError, Global};

@@ -4,7 +4,7 @@ ghost use Rattle.std.specs.Prelude.{◌≡◌, IfNone, IfSome, IsSome, Some, [],
 ghost use Rattle.snl_observer.specs.Watching.{stopped};
 
 use crate::closes::Ending;
-use crate::standing::Standing;
+use crate::current_states::Standing;
 use crate::trail::Trail;
 use snl_heard::Page;
 use snl_output::Sink;

@@ -6,8 +6,8 @@ ghost use Rattle.snl_machine.specs.Snapshots.{Pictures, lasting_frame};
 ghost use Rattle.snl_meaning.specs.World.{World};
 ghost use Rattle.snl_observer.specs.Lasting.{lasting_of};
 
+use crate::current_states::{ForbiddenState, place_named};
 use crate::pages::TextSink;
-use crate::standing::{ForbiddenState, place_named};
 use snl_machine::{Machine, Snapshot};
 use snl_outline::SetOutline;
 use snl_trace::Events;
