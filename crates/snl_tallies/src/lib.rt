@@ -7,10 +7,10 @@ mod faults;
 mod heads;
 pub mod laws;
 mod lines;
-mod reading;
+mod parser;
 mod tally;
 
 pub use faults::ReadFault;
 pub use heads::{Head, Subject, is_counts};
-pub use reading::read_counts;
+pub use parser::read_counts;
 pub use tally::{Tally, push_tallies};

@@ -3,7 +3,7 @@ use Rattle.std.proofs.lemmas.Bool.Decides.{Decides-eqb}
 use Rattle.std.proofs.lemmas.Result.{IfOk-weaker}
 use Rattle.std.proofs.lemmas.Slice.Eq.{strip_prefix_is}
 use Rattle.snl_tallies.specs.Counts.{names_of, text_of}
-use Rattle.snl_tallies.proofs.reading.read_counts.Goals as goal
+use Rattle.snl_tallies.proofs.parser.read_counts.Goals as goal
 
 pub returns-in-Some-clause-ok : goal.returns-in-Some-clause-ok
 returns-in-Some-clause-ok c =

@@ -3,7 +3,7 @@ use Rattle.std.proofs.lemmas.List.Elements.{All-append, All-cons, All-nil}
 use Rattle.snl_tallies.specs.Counts.{line_of, names_of, text_of}
 use Rattle.snl_tallies.proofs.ReadLaws.{read-no-more, read-on, read-too-much}
 use Rattle.snl_tallies.proofs.TextLaws.{IsSmall}
-use Rattle.snl_tallies.proofs.reading.counts_in.Goals as goal
+use Rattle.snl_tallies.proofs.parser.counts_in.Goals as goal
 
 pub returns-in-None-clause-err : goal.returns-in-None-clause-err
 returns-in-None-clause-err c =
