@@ -5,7 +5,7 @@ ghost use Rattle.snl_output.specs.Devices.{counted, told_more, Wrote};
 ghost use Rattle.snl_watch.specs.Folding.{again_line, more_words};
 
 use crate::lines::ms_of;
-use crate::writing::write_pieces;
+use crate::writer::write_pieces;
 use crate::zero::{BESIDE, Zero};
 use arrayvec::ArrayVec;
 use itoa::Buffer;

@@ -7,12 +7,12 @@ ghost use Rattle.snl_watch.specs.Folding.{IsFolded, are_notes};
 ghost use Rattle.snl_watch.specs.Folds.{Folds, ends_line, is_in_line};
 
 use crate::block::Block;
-use crate::folding::{end_line, noted};
+use crate::folded_line::{end_line, noted};
 use crate::line_ends::{ends_line, first_line};
+use crate::note_buffer::ROOM;
 use crate::notes::Notes;
 use crate::recent::Recent;
-use crate::waiting::ROOM;
-use crate::writing::write_pieces;
+use crate::writer::write_pieces;
 use snl_output::{Fired, Put, Refused, Sink, SinkFault, Went};
 use std::alloc::{AllocError, Global};
 

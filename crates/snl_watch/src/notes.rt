@@ -3,13 +3,13 @@
 ghost use Rattle.std.specs.Prelude.{◌≡◌, true};
 ghost use Rattle.snl_watch.specs.Folding as spec;
 
+use crate::current_states::Standing;
 use crate::legend::{ClauseLegend, Legend};
 use crate::line_ends::ends_line;
 use crate::lines::line_number;
+use crate::note_buffer::Waiting;
 use crate::noted::are_notes;
 use crate::progress::Progress;
-use crate::standing::Standing;
-use crate::waiting::Waiting;
 use crate::zero::{BESIDE, Zero};
 use arrayvec::ArrayVec;
 use itoa::Buffer;

@@ -6,9 +6,9 @@ ghost use Rattle.snl_output.specs.Devices.{counted, told_more, write_fails};
 ghost use Rattle.snl_watch.specs.Extra.{kept_from, place_after, shown, start};
 ghost use Rattle.snl_watch.specs.Places.{place_of};
 
+use crate::note_buffer::taken;
 use crate::notes::Notes;
 use crate::places::LinePlace;
-use crate::waiting::taken;
 use snl_output::{Fired, Put, Refused, Sink, SinkFault, Went};
 
 /// Hands lines on, with extra ones between them. What it tells is what the sink behind it tells, without the extra lines.

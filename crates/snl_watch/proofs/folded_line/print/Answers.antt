@@ -1,7 +1,7 @@
 use Rattle.std.proofs.Common.{◌∙◌, ap}
 use Rattle.snl_output.specs.Devices.{told_more}
 use Rattle.snl_watch.proofs.FoldLaws.{wrote-both}
-use Rattle.snl_watch.proofs.folding.print.Goals as goal
+use Rattle.snl_watch.proofs.folded_line.print.Goals as goal
 
 pub returns-clause-told : goal.returns-clause-told
 returns-clause-told g c = wrote-both c.write_whole-2.result c.args.note.now c.args.line.now _ _ _

@@ -1,5 +1,5 @@
 use Rattle.snl_watch.proofs.FoldLaws.{on-ok, recents-as}
-use Rattle.snl_watch.proofs.folding.end_line.Goals as goal
+use Rattle.snl_watch.proofs.folded_line.end_line.Goals as goal
 
 pub returns-then-holds-clause-folds : goal.returns-then-holds-clause-folds
 returns-then-holds-clause-folds g c = on-ok c.end_text.result _ _

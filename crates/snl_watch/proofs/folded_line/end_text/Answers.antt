@@ -6,7 +6,7 @@ use Rattle.snl_watch.specs.Folding.{without_time}
 use Rattle.snl_watch.specs.Folds.{Folds}
 use Rattle.snl_watch.specs.Recents.{recent_texts}
 use Rattle.snl_watch.proofs.FoldLaws.{tells-both, tells-none, held-line, held-whole, knows-more, printed, told-both, told-none}
-use Rattle.snl_watch.proofs.folding.end_text.Goals as goal
+use Rattle.snl_watch.proofs.folded_line.end_text.Goals as goal
 
 -- what was kept, of a line without its time
 kept-of : (texts texts' : List (List ℕ)) (text line : List ℕ) (n : ℕ) → text ≡ without_time line → texts' ≡ keep_last n (texts ++ text ∷ []) →

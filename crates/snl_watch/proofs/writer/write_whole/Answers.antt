@@ -1,7 +1,7 @@
 use Rattle.std.proofs.Common.{arith, rules}
 use Rattle.std.proofs.lemmas.List.{take_rest}
 use Rattle.snl_output.proofs.Writing.{failed-wrote, takes-more, takes-no_more, takes-nothing}
-use Rattle.snl_watch.proofs.writing.write_whole.Goals as goal
+use Rattle.snl_watch.proofs.writer.write_whole.Goals as goal
 
 pub returns-in_err-taken-clause-told : goal.returns-in_err-taken-clause-told
 returns-in_err-taken-clause-told g c =

@@ -1,6 +1,6 @@
 use Rattle.std.proofs.Common.{◌≡◌, ◌-◌, ◌≤◌, length, take}
 use Rattle.snl_output.specs.Devices.{told_more}
-use Rattle.snl_watch.proofs.writing.write_whole.Given as goal
+use Rattle.snl_watch.proofs.writer.write_whole.Given as goal
 
 abbrev pub invariant-loop-written : goal.invariant-loop-written
 invariant-loop-written g l = record {

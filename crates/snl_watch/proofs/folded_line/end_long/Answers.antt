@@ -4,7 +4,7 @@ use Rattle.snl_watch.specs.Folding.{without_time}
 use Rattle.snl_watch.specs.Folds.{Folds}
 use Rattle.snl_watch.specs.Recents.{recent_texts}
 use Rattle.snl_watch.proofs.FoldLaws.{tells-both, knows-none, printed, told-both}
-use Rattle.snl_watch.proofs.folding.end_long.Goals as goal
+use Rattle.snl_watch.proofs.folded_line.end_long.Goals as goal
 
 pub returns-clause-folds : goal.returns-clause-folds
 returns-clause-folds g c run output output' was is f =

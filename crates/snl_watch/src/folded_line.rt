@@ -10,7 +10,7 @@ use crate::block::Block;
 use crate::line_ends::digits_of;
 use crate::noted::are_notes;
 use crate::recent::Recent;
-use crate::writing::write_whole;
+use crate::writer::write_whole;
 use crate::zero::Zero;
 use snl_output::{Sink, SinkFault};
 
