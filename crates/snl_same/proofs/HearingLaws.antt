@@ -3,7 +3,7 @@ use Rattle.std.proofs.Common.{◌≡◌, ◌∙◌, ℕ, ℤ, Bool, true, List, 
 use Rattle.snl_machine.specs.declared.machine.Machine.{Machine}
 use Rattle.std.specs.Option.{option_map}
 use Rattle.snl_same.specs.Hearing.{Tells, with_number}
-use Rattle.snl_same.specs.declared.hearing.Numbers.{Numbers}
+use Rattle.snl_same.specs.declared.plain_lines.Numbers.{Numbers}
 use Rattle.snl_schedule.specs.declared.events.Event.{Event}
 use Rattle.snl_schedule.specs.declared.events.Event.TheVariants as event
 use Rattle.snl_trace.specs.Grammar.{◌>>=◌, Told, Tick, Val, event_at, if_fits, read_of, told_of, val_at, val_of}

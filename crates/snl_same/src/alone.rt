@@ -1,7 +1,7 @@
 //! How many lines one run wrote alone.
 
 use crate::filters::Filter;
-use crate::keeping::kept;
+use crate::kept_lines::kept;
 use indexmap::IndexMap;
 use std::alloc::{AllocError, Global};
 

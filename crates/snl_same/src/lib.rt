@@ -6,27 +6,27 @@
 
 mod alone;
 mod clauses;
-mod comparing;
+mod comparison;
 mod differences;
+mod divergence;
 mod filters;
-mod hearing;
-mod keeping;
+mod kept_lines;
 pub mod laws;
-mod loading;
+mod line_step;
+mod loader;
 mod logs;
 mod pages;
+mod plain_lines;
 mod puts;
-mod reading;
+mod report;
 mod scenes;
 mod sides;
-mod stepping;
 mod sums;
-mod telling;
 mod words;
 
-pub use comparing::apart_at;
+pub use comparison::{Compared, compare};
 pub use differences::{Apart, Close, Difference};
+pub use divergence::apart_at;
 pub use filters::Filter;
-pub use loading::ready_of;
-pub use reading::{Compared, compare};
+pub use loader::ready_of;
 pub use sides::Side;
