@@ -4,29 +4,29 @@
 //! draws it.
 #![tactic(auto)]
 
-mod charting;
+mod chart_picture;
 mod charts;
+mod counters;
 pub mod cover_laws;
 mod coverage;
-mod drawing;
 mod go_lines;
-mod graphing;
-mod launching;
+mod graph_answer;
+mod graphviz;
+mod loader;
 mod missed;
 mod missing;
 mod pictures;
-mod picturing;
+mod program_chart;
 mod puts;
 mod runner;
 mod seen;
 mod tallies;
 mod told;
-mod watching;
 
 pub use charts::Chart;
 pub use coverage::{Coverage, PutChart};
-pub use graphing::{Drawing, graph};
-pub use launching::runner_of;
+pub use graph_answer::{Drawing, graph};
+pub use loader::runner_of;
 pub use missed::{Gaps, Missed, Share, gaps_of};
 pub use missing::coverage_text;
 pub use pictures::{Arrow, Cluster, Picture, StateNode};

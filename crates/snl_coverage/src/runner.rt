@@ -13,9 +13,9 @@ ghost use Rattle.snl_coverage.specs.Runners.{IsRunner, RunsOnceMore};
 ghost use Rattle.snc.specs.Runs.{RunsLike};
 ghost use Rattle.snl_coverage.specs.Shapes.{charted, go_texts};
 
+use crate::counters::counts_of;
 use crate::coverage::Coverage;
 use crate::seen::{Counting, RunCoverage, counting_of};
-use crate::watching::counts_of;
 use snl_machine::{Machine, Sink, Snapshot};
 use snl_trace::{End, Source, run};
 use snl_watch::Watch;

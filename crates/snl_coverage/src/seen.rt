@@ -8,10 +8,10 @@ ghost use Rattle.snl_coverage.specs.Coverage.{AreCounts};
 ghost use Rattle.snl_coverage.specs.Shapes.{bytes_of, charted, go_texts};
 
 use crate::charts::Chart;
+use crate::counters::{counter_of, counts_of};
 use crate::coverage::PutChart;
 use crate::go_lines::go_texts;
 use crate::puts::no_puts;
-use crate::watching::{counter_of, counts_of};
 use snl_watch::{Counter, Trail};
 use std::alloc::{AllocError, Global};
 
