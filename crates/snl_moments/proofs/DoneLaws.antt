@@ -6,9 +6,9 @@ use Rattle.snl_moments.specs.Comes.{IsLine}
 use Rattle.snl_moments.specs.Plans.{KeepsPlan}
 use Rattle.snl_moments.specs.Stepping.{IsDone}
 use Rattle.snl_moments.specs.Walks.{DoesBy, EndsAt, Keeps, TellsBad}
-use Rattle.snl_moments.specs.declared.loading.Subject.{Subject}
-use Rattle.snl_moments.specs.declared.stepping.Done.{Done}
-use Rattle.snl_moments.specs.declared.stepping.Done.TheVariants.{Bad, Well}
+use Rattle.snl_moments.specs.declared.subject.Subject.{Subject}
+use Rattle.snl_moments.specs.declared.line_step.Done.{Done}
+use Rattle.snl_moments.specs.declared.line_step.Done.TheVariants.{Bad, Well}
 use Rattle.snl_moments.specs.declared.walks.Close.{Close}
 use Rattle.snl_trace.specs.declared.runner.End.{End}
 use Rattle.snl_trace.specs.declared.trace_faults.TraceFault.{TraceFault}

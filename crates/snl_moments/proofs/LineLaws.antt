@@ -10,7 +10,7 @@ use Rattle.snl_moments.specs.Plans.{SameAsked, left_of}
 use Rattle.snl_moments.specs.Stepping.{LineFollows}
 use Rattle.snl_moments.specs.Tells.{IsBad}
 use Rattle.snl_moments.specs.Walks.{ComesTowards, DoesBy, EndsAt, GoesBy, IsRefused, Keeps, Leaves, MeansAs, Nears, ReadsAt, ReadsBehind, ReadsUpTo, TellsAt, TellsBad, WakesTo}
-use Rattle.snl_moments.specs.declared.loading.Subject.{Subject}
+use Rattle.snl_moments.specs.declared.subject.Subject.{Subject}
 use Rattle.snl_moments.specs.declared.walks.Close.{Close}
 use Rattle.snl_moments.specs.declared.walks.Sort.TheVariants.{Times}
 use Rattle.snl_trace.specs.Run.{Rules}

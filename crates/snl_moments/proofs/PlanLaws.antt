@@ -7,7 +7,7 @@ use Rattle.std.proofs.lemmas.List.{drop_all, map-append}
 use Rattle.std.proofs.lemmas.Option.{get_or_from_slice_get, none-some, slice_get_cases, slice_get_within}
 use Rattle.snl_moments.specs.Loaded.{IsUntold}
 use Rattle.snl_moments.specs.Plans.{AreFrom, AreTold, AreToldBy, AsksFor, ClosesPlan, EndsPlan, GoesPlanned, KeepsPlan, SameAsked, StaysAsked, TellsKind, TellsNext, TellsPlan, kinds, left_of, planned}
-use Rattle.snl_moments.specs.declared.loading.Subject.{Subject}
+use Rattle.snl_moments.specs.declared.subject.Subject.{Subject}
 use Rattle.snl_moments.specs.declared.walks.Close.{Close}
 use Rattle.snl_moments.specs.declared.walks.Close.TheVariants.{Ended, Over, Told}
 use Rattle.snl_moments.specs.declared.walks.Kind.{Kind}

@@ -13,7 +13,7 @@ use Rattle.snl_moments.specs.Comes.{Begins, ComesTo, IsLine}
 use Rattle.snl_moments.specs.Plans.{AreFrom, AsksFor, left_of}
 use Rattle.snl_moments.specs.Tells.{AreMoments, IsBad, IsMoment, whole_of}
 use Rattle.snl_moments.specs.Walks.{EndsAt, EndsBehind, GoesBy, HasRoom, KeepsTold, MeansAs, Stands, TakesIn, TellsBad}
-use Rattle.snl_moments.specs.declared.loading.Subject.{Subject}
+use Rattle.snl_moments.specs.declared.subject.Subject.{Subject}
 use Rattle.snl_moments.specs.declared.walks.Close.{Close}
 use Rattle.snl_moments.specs.declared.walks.Moment.{Moment}
 use Rattle.snl_trace.specs.Run.{Rules}

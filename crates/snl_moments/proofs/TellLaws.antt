@@ -14,7 +14,7 @@ use Rattle.snl_moments.specs.Comes.{ComesTo}
 use Rattle.snl_moments.specs.Plans.{AreFrom, SameAsked, left_of}
 use Rattle.snl_moments.specs.Tells.{IsAtTime, IsMoment, Tells, bare, sizes_of}
 use Rattle.snl_moments.specs.Walks.{HasRoom, MeansAs, Stands}
-use Rattle.snl_moments.specs.declared.loading.Subject.{Subject}
+use Rattle.snl_moments.specs.declared.subject.Subject.{Subject}
 use Rattle.snl_moments.specs.declared.walks.Moment.{Moment}
 use Rattle.snl_trace.specs.Run.{Rules}
 use Rattle.snl_vm.specs.Pictures.{TakesPicture, lasting_frame}

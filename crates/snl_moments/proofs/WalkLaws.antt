@@ -21,7 +21,7 @@ use Rattle.snl_moments.specs.Walks.{EndsAt, HasRoom, IsRefused, Keeps, KeepsTold
 use Rattle.std.proofs.lemmas.Bool.{false≢true}
 use Rattle.snl_meaning.specs.declared.live.Live.{Live}
 use Rattle.snl_meaning.specs.declared.live.Live.TheVariants.{Ended, Running}
-use Rattle.snl_moments.specs.declared.loading.Subject.{Subject}
+use Rattle.snl_moments.specs.declared.subject.Subject.{Subject}
 use Rattle.snl_moments.specs.declared.walks.Kind.{Kind}
 use Rattle.snl_moments.specs.declared.walks.Kind.TheVariants as kind
 use Rattle.snl_moments.specs.declared.walks.Moment.{Moment}

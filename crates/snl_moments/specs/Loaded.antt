@@ -6,7 +6,7 @@ use Rattle.snl_machine.specs.Loading.{IsLoaded, IsLoadedFrom}
 use Rattle.snl_machine.specs.MachineOf.{task_of, world_held}
 use Rattle.snl_machine.specs.declared.machine.Machine.{Machine}
 use Rattle.snl_moments.specs.Walks.{HasRoom, MeansAs}
-use Rattle.snl_moments.specs.declared.loading.Subject.{Subject}
+use Rattle.snl_moments.specs.declared.subject.Subject.{Subject}
 use Rattle.snl_syntax.specs.Programs.{ProgramTree}
 use Rattle.snl_trace.specs.Run.{rules_by}
 

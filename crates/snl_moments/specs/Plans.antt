@@ -1,6 +1,6 @@
 -- Which moments are told, of those that were asked for.
 use Rattle.std.specs.Prelude.{◌≡◌, ◌+◌, ◌⊎◌, ◌≤◌, ℕ, Bool, true, List, [], ◌∷◌, ◌++◌, Option, None, Some, drop, map, slice_get}
-use Rattle.snl_moments.specs.declared.loading.Subject.{Subject}
+use Rattle.snl_moments.specs.declared.subject.Subject.{Subject}
 use Rattle.snl_moments.specs.declared.walks.Asked.{Asked}
 use Rattle.snl_moments.specs.declared.walks.Asked.TheVariants as asked
 use Rattle.snl_moments.specs.declared.walks.Close.{Close}

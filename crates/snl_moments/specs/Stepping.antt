@@ -6,9 +6,9 @@ use Rattle.snl_meaning.specs.Keeping.{world_after}
 use Rattle.snl_moments.specs.Plans.{SameAsked}
 use Rattle.snl_moments.specs.Tells.{sizes_of}
 use Rattle.snl_moments.specs.Walks.{IsRefused, MeansAs}
-use Rattle.snl_moments.specs.declared.stepping.Done.{Done}
-use Rattle.snl_moments.specs.declared.stepping.Done.TheVariants.{Bad, Well}
-use Rattle.snl_moments.specs.declared.loading.Subject.{Subject}
+use Rattle.snl_moments.specs.declared.line_step.Done.{Done}
+use Rattle.snl_moments.specs.declared.line_step.Done.TheVariants.{Bad, Well}
+use Rattle.snl_moments.specs.declared.subject.Subject.{Subject}
 use Rattle.snl_schedule.specs.declared.events.Event.{Event}
 use Rattle.snl_trace.specs.Run.{Rules, line_done}
 

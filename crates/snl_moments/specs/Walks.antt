@@ -12,7 +12,7 @@ use Rattle.snl_moments.specs.Tells.{IsAtTime, IsBad, IsMoment, sizes_of, whole_o
 use Rattle.snl_moments.specs.declared.walks.Close.{Close}
 use Rattle.snl_moments.specs.declared.walks.Kind.{Kind}
 use Rattle.snl_moments.specs.declared.walks.Sort.TheVariants.{Times}
-use Rattle.snl_moments.specs.declared.loading.Subject.{Subject}
+use Rattle.snl_moments.specs.declared.subject.Subject.{Subject}
 use Rattle.snl_schedule.specs.declared.events.Event.{Event}
 use Rattle.snl_syntax.specs.Programs.{ProgramTree}
 use Rattle.snl_trace.specs.Run.{Rules, rules_by}

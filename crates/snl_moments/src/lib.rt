@@ -4,18 +4,18 @@
 //! what it knows of channels, and its queues. Or it keeps what the program is where it faults, or where it came into a state last.
 #![tactic(auto)]
 
-mod ending;
-mod hearing;
+mod history;
 pub mod laws;
-mod loading;
-mod reading;
-mod stepping;
-mod telling;
+mod line_step;
+mod moment_store;
+mod subject;
 mod times;
-mod waking;
+mod trace_walk;
+mod wakes;
+mod walk_end;
 mod walks;
 
-pub use hearing::{At, ChannelHeard, PutHeard, RunHistory};
-pub use loading::{Subject, subject_of};
-pub use reading::moments;
+pub use history::{At, ChannelHeard, PutHeard, RunHistory};
+pub use subject::{Subject, subject_of};
+pub use trace_walk::moments;
 pub use walks::{Asked, Close, Kind, Moment};

@@ -6,10 +6,10 @@ ghost use Rattle.snl_moments.specs.Plans.{AreFrom, KeepsPlan, TellsLast, TellsNe
 ghost use Rattle.snl_moments.specs.Walks.{ComesTowards, KeepsTold, Leaves, MeansAs, ReadsBehind, ReadsUpTo, TellsAt, TellsNow};
 ghost use Rattle.snl_trace.specs.Run.{Rules};
 
-use crate::loading::Subject;
-use crate::stepping::time_of;
-use crate::telling::tell;
-use crate::waking::wake_up;
+use crate::line_step::time_of;
+use crate::moment_store::tell;
+use crate::subject::Subject;
+use crate::wakes::wake_up;
 use crate::walks::{Kind, Sort};
 use snl_machine::Snapshot;
 use std::alloc::{AllocError, Global};

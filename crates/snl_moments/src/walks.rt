@@ -1,6 +1,6 @@
 //! What is asked for of a walk along a trace, and what comes of it.
 
-use crate::hearing::RunHistory;
+use crate::history::RunHistory;
 use snl_trace::End;
 use snl_vm::Store;
 

@@ -5,7 +5,7 @@ use Rattle.snl_machine.specs.MachineOf.{world_held}
 use Rattle.snl_moments.specs.Plans.{AreFrom}
 use Rattle.snl_moments.specs.Tells.{AreMoments}
 use Rattle.snl_moments.specs.Walks.{HasRoom, MeansAs}
-use Rattle.snl_moments.specs.declared.loading.Subject.{Subject}
+use Rattle.snl_moments.specs.declared.subject.Subject.{Subject}
 use Rattle.snl_moments.specs.declared.walks.Moment.{Moment}
 use Rattle.snl_trace.specs.Run.{Rules}
 

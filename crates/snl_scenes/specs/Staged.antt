@@ -6,9 +6,9 @@ use Rattle.snl_machine.specs.Loading.{IsLoaded}
 use Rattle.snl_machine.specs.MachineOf.{world_held}
 use Rattle.snl_moments.specs.Loaded.{IsUntold}
 use Rattle.snl_moments.specs.Walks.{HasRoom}
-use Rattle.snl_moments.specs.declared.loading.Subject.{Subject}
+use Rattle.snl_moments.specs.declared.subject.Subject.{Subject}
 use Rattle.snl_names.specs.declared.options.Options.{Options}
-use Rattle.snl_scenes.specs.declared.staging.Scene.{Scene}
+use Rattle.snl_scenes.specs.declared.loader.Scene.{Scene}
 use Rattle.snl_syntax.specs.Programs.{ProgramTree}
 
 -- The machine is loaded of a tree, by these macros and the options in force, each store has room for its world, and nothing is told.

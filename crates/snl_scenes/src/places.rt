@@ -1,7 +1,7 @@
 //! States by their names.
 
+use crate::loader::Scene;
 use crate::names::{SetNames, StateNames};
-use crate::staging::Scene;
 use std::alloc::{AllocError, Global};
 
 /// The state set and the state of a word `SS.STATE`.

@@ -1,5 +1,0 @@
-use Rattle.snl_moments.proofs.StepLaws.{takes-all}
-use Rattle.snl_moments.proofs.stepping.event_told.Goals as goal
-
-pub returns-clause-takes : goal.returns-clause-takes
-returns-clause-takes g c = takes-all c.event.result c.event.ensures.failures
