@@ -1,6 +1,6 @@
 //! Where the units of a trace and those of a file differ, as lines for a user.
 
-use crate::comparing::{Comparison, UnitVerdict, is_compared};
+use crate::comparison::{Comparison, UnitVerdict, is_compared};
 use crate::units::{ChannelUnits, Unit};
 use crate::written::push_unit;
 use itoa::Buffer;

@@ -5,26 +5,26 @@
 //! [`value_of`] makes the whole number of a trace of a value that a person gives, `shown` goes the other way, and a [`Comparison`] tells where a trace has other units.
 #![tactic(auto)]
 
-mod comparing;
+mod comparison;
 mod decimals;
 mod differences;
 mod exact;
 mod faults;
 pub mod laws;
 mod numbers;
+mod parser;
 mod puts;
 mod quoted;
-mod reading;
 mod same;
 mod shown;
 mod units;
 mod values;
 mod written;
 
-pub use comparing::Comparison;
+pub use comparison::Comparison;
 pub use faults::{LineFault, PutFault, UnitsFault, ValueFault};
+pub use parser::units_of;
 pub use puts::line_in_units;
-pub use reading::units_of;
 pub use shown::SHOWN;
 pub use units::{ChannelUnits, TextNumber, Unit};
 pub use values::value_of;

@@ -1,7 +1,7 @@
 //! What the first comments of a trace say of its units, beside a file of units.
 
 use crate::faults::Refusal;
-use crate::reading::line_units;
+use crate::parser::line_units;
 use crate::same::are_same;
 use crate::units::{ChannelUnits, Unit};
 use std::alloc::{AllocError, Global};
