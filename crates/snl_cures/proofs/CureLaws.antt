@@ -3,8 +3,8 @@ use Rattle.std.proofs.Common.{◌≡◌, ◌+◌, ℕ, List, length, slice_get, 
 use Rattle.snl_text.specs.declared.tokens.Pos.{Pos}
 use Rattle.snl_text.specs.declared.tokens.Token.{Token}
 use Rattle.snl_cures.specs.declared.cures.Cure.{Cure}
-use Rattle.snl_cures.specs.declared.reaching.Reach.{Reach}
-use Rattle.snl_cures.specs.declared.reaching.Reach.TheVariants.{Whole, Unexpected, TooDeep}
+use Rattle.snl_cures.specs.declared.reach.Reach.{Reach}
+use Rattle.snl_cures.specs.declared.reach.Reach.TheVariants.{Whole, Unexpected, TooDeep}
 use Rattle.snl_cures.specs.Reaching.{IsReach, IsPast}
 use Rattle.snl_cures.specs.Cures.{Fits, GoesBeyond, IsCure, IsFarther, mended, place_of, put_count}
 

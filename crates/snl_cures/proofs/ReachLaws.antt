@@ -6,7 +6,7 @@ use Rattle.snl_syntax.specs.Begins.{Spells, IsUnexpected, IsTooDeep}
 use Rattle.snl_syntax.specs.Programs.{ProgramTree, IsProgram, programs}
 use Rattle.snl_tree.specs.declared.faults.ParseFault.{ParseFault}
 use Rattle.snl_tree.specs.declared.faults.ParseFault.TheVariants as fault
-use Rattle.snl_cures.specs.declared.reaching.Reach.{Reach}
+use Rattle.snl_cures.specs.declared.reach.Reach.{Reach}
 use Rattle.snl_cures.specs.Reaching.{IsReach, reach_of_found}
 
 -- of each answer of the parser

@@ -6,9 +6,9 @@ use Rattle.snl_text.specs.declared.tokens.Token.{Token}
 use Rattle.snl_cures.specs.declared.cures.Cure.{Cure}
 use Rattle.snl_cures.specs.declared.cures.Cure.TheVariants.{Before, Instead, Away}
 use Rattle.snl_cures.specs.declared.cures.CureToken.{CureToken}
-use Rattle.snl_cures.specs.declared.finding.Cured.{Cured}
-use Rattle.snl_cures.specs.declared.reaching.Reach.{Reach}
-use Rattle.snl_cures.specs.declared.reaching.Reach.TheVariants.{Whole, Unexpected, TooDeep}
+use Rattle.snl_cures.specs.declared.cure_search.Cured.{Cured}
+use Rattle.snl_cures.specs.declared.reach.Reach.{Reach}
+use Rattle.snl_cures.specs.declared.reach.Reach.TheVariants.{Whole, Unexpected, TooDeep}
 use Rattle.snl_cures.specs.Reaching.{AreProgram, HasFault, IsReach}
 
 -- A piece as a token at a place.

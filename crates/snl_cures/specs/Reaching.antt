@@ -6,8 +6,8 @@ use Rattle.snl_tree.specs.declared.faults.ParseFault.{ParseFault}
 use Rattle.snl_tree.specs.declared.faults.ParseFault.TheVariants as fault
 use Rattle.snl_syntax.specs.Begins.{Spells, IsUnexpected, IsTooDeep}
 use Rattle.snl_syntax.specs.Programs.{ProgramTree, IsProgram, programs}
-use Rattle.snl_cures.specs.declared.reaching.Reach.{Reach}
-use Rattle.snl_cures.specs.declared.reaching.Reach.TheVariants.{Whole, Unexpected, TooDeep}
+use Rattle.snl_cures.specs.declared.reach.Reach.{Reach}
+use Rattle.snl_cures.specs.declared.reach.Reach.TheVariants.{Whole, Unexpected, TooDeep}
 
 -- The tokens are a program.
 abbrev pub AreProgram : List Token → Type 0

@@ -3,13 +3,13 @@
 //! [`cure_at`] tries them at a token that cannot stand, by the parser alone.
 #![tactic(auto)]
 
+mod cure_search;
+mod cured_tokens;
 mod cures;
-mod finding;
 pub mod laws;
-mod mending;
-mod reaching;
+mod reach;
 
+pub use cure_search::{Cured, cure_at};
+pub use cured_tokens::put_count;
 pub use cures::{Cure, CureToken};
-pub use finding::{Cured, cure_at};
-pub use mending::put_count;
-pub use reaching::Reach;
+pub use reach::Reach;

@@ -3,9 +3,9 @@
 ghost use Rattle.std.specs.Prelude.{◌≡◌, ◌<◌, ℕ, IfOk, IfSome, IsTrue};
 ghost use Rattle.snl_cures.specs.Cures as spec;
 
+use crate::cured_tokens::{fits, mended, place_at, put_count};
 use crate::cures::{CURES, Cure, tried_cure};
-use crate::mending::{fits, mended, place_at, put_count};
-use crate::reaching::{Reach, is_past, reach_of};
+use crate::reach::{Reach, is_past, reach_of};
 use snl_text::{Lexed, Pos, Token};
 use std::alloc::{AllocError, Global};
 
