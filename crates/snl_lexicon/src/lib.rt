@@ -3,20 +3,20 @@
 //! `wanted_of` makes of words what a search looks for: ends of lines of the output.
 #![tactic(auto)]
 
-mod coming;
-mod looking;
 mod meanings;
 mod names;
 mod never;
 mod puts;
-mod scouting;
+mod reachability;
+mod setup;
 mod spelling;
 mod unwritten;
 mod wanted;
+mod wanted_text;
 mod wrongs;
 
 pub use meanings::Lexicon;
 pub use names::{ProgramNames, Store};
 pub use puts::{begins_program, cut, has_end, put_twice};
-pub use scouting::{Ground, Machines, Scouted, Scouts, SearchFacts, scouted_by};
+pub use setup::{Ground, Machines, Scouted, Scouts, SearchFacts, scouted_by};
 pub use wanted::{Wanted, WishedEnd, wanted_of};

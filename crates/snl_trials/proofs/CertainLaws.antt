@@ -2,7 +2,7 @@
 use Rattle.std.proofs.Common.{◌≡◌, ℕ, Bool, true, false, Option, None, Some, refl, sym}
 use Rattle.std.proofs.lemmas.Option.{none-some}
 use Rattle.std.specs.Option.{IfSome, IsSomeAnd}
-use Rattle.snl_search.specs.declared.certifying.Searched.{Searched}
+use Rattle.snl_search.specs.declared.certificate.Searched.{Searched}
 use Rattle.snl_trials.specs.Certain.{Reaches}
 
 -- a bound of as many lines as were wished, or none

@@ -1,7 +1,7 @@
 use Rattle.std.proofs.Common.{ℕ, List, map, subst}
 use Rattle.std.specs.Option.{IsSomeAnd}
 use Rattle.std.specs.Prelude.{string_bytes}
-use Rattle.snl_search.specs.declared.certifying.Searched.{Searched}
+use Rattle.snl_search.specs.declared.certificate.Searched.{Searched}
 use Rattle.snl_search.specs.Shown.{IsShown}
 use Rattle.snl_trials.proofs.CertainLaws.{shown-there, reaches-there}
 use Rattle.snl_trials.proofs.nevers.sought.Goals as goal
