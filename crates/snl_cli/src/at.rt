@@ -4,7 +4,7 @@ ghost use Rattle.snl_moments.specs.Loaded.{IsUntold};
 
 use crate::asked::Asked;
 use crate::input::Input;
-use crate::overhearing::{clock_text, tell_bad_line};
+use crate::trace_report::{clock_text, tell_bad_line};
 use snc::{Answered, Status};
 use snc_cli::write;
 use snl_args::AtWords;

@@ -2,7 +2,7 @@
 
 ghost use Rattle.std.specs.Prelude.{◌≡◌, [], IfOk};
 
-use crate::overhearing::{compared, overheard};
+use crate::trace_report::{compared, overheard};
 use snc::Status;
 use snc_cli::Stream;
 use snl_trace::{Source, SourceFault};

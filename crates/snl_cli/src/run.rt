@@ -2,8 +2,8 @@
 
 use crate::asked::Asked;
 use crate::input::Input;
-use crate::overhearing::{clock_text, status_with, tell_bad_line, units_text};
-use crate::watching::answered_watch;
+use crate::run_watch::answered_watch;
+use crate::trace_report::{clock_text, status_with, tell_bad_line, units_text};
 use snc::{SinkFault, Status};
 use snc_cli::{Lines, Outlet, write};
 use snl_args::RunWords;

@@ -1,6 +1,6 @@
 //! The files that a check looks at: those that the call names, and of a folder the programs in it.
 
-use crate::checking::{SourceJob, answered_check};
+use crate::check::{SourceJob, answered_check};
 use crate::jobs::job_of_file;
 use snc::Status;
 use snc_cli::source_in;

@@ -2,7 +2,7 @@
 
 ghost use Rattle.std.specs.Prelude.{◌≡◌, [], IfOk};
 
-use crate::overhearing::overheard;
+use crate::trace_report::overheard;
 use snc::Status;
 use snc_cli::Stream;
 use snl_trace::{Source, SourceFault};

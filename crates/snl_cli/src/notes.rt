@@ -1,6 +1,6 @@
 //! The notes on the messages about a source.
 
-use crate::checking::SourceJob;
+use crate::check::SourceJob;
 use snl_args::Format;
 use snl_notes::{NoteForm, Read, notes_of};
 use std::alloc::AllocError;

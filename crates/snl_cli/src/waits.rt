@@ -2,7 +2,7 @@
 
 use crate::asked::Asked;
 use crate::input::Input;
-use crate::overhearing::{clock_text, status_with, tell_bad_line, units_text};
+use crate::trace_report::{clock_text, status_with, tell_bad_line, units_text};
 use snc::Status;
 use snc_cli::write;
 use snl_trace::End;

@@ -1,6 +1,6 @@
 //! `snl check`.
 
-use crate::noting::{in_front, notes_on};
+use crate::notes::{in_front, notes_on};
 use snc::{Answered, Maker, Status, answer, macros_of};
 use snc_args::Job;
 use snc_cli::write;

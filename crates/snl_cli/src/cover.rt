@@ -3,9 +3,9 @@
 ghost use Rattle.std.specs.Prelude.{◌≡◌, ◌-◌, ◌^◌, ◌<◌, []};
 
 use crate::asked::Asked;
-use crate::counting::{add_files, write_counts};
+use crate::count_files::{add_files, write_counts};
 use crate::input::Input;
-use crate::overhearing::bad_line_text;
+use crate::trace_report::bad_line_text;
 use crate::traces::TraceFile;
 use crate::wholes::paths_in;
 use snc::{Answered, Status, status_of};

@@ -3,7 +3,7 @@
 ghost use Rattle.std.specs.Prelude.{◌≡◌, []};
 
 use crate::input::Input;
-use crate::overhearing::{clock_text, tell_bad_line};
+use crate::trace_report::{clock_text, tell_bad_line};
 use snc::{Answered, Status};
 use snc_cli::{source_in, tell, write};
 use snl_args::{Call, SameWords};

@@ -1,7 +1,7 @@
 //! A share of a search, and of what search it is.
 
 use crate::asked::Asked;
-use crate::counting::{head_of, words_of};
+use crate::count_files::{head_of, words_of};
 use crate::version::VERSION;
 use snl_args::{AfterWords, ChannelValues, SearchWords, StopWords};
 use snl_joins::Part;

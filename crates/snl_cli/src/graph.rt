@@ -1,9 +1,9 @@
 //! `snl graph`: the trace of a call, and the picture.
 
 use crate::asked::Asked;
-use crate::counting::add_files;
+use crate::count_files::add_files;
 use crate::input::Input;
-use crate::overhearing::tell_bad_line;
+use crate::trace_report::tell_bad_line;
 use snc::{Answered, Status, status_of};
 use snc_cli::write;
 use snl_args::GraphWords;

@@ -3,9 +3,9 @@
 ghost use Rattle.std.specs.Prelude.{◌≡◌, []};
 
 use crate::asked::Asked;
-use crate::comparing::notes_of;
 use crate::input::Input;
-use crate::overhearing::{clock_text, status_with, tell_bad_line, units_text};
+use crate::same::notes_of;
+use crate::trace_report::{clock_text, status_with, tell_bad_line, units_text};
 use snc::{Answered, Status};
 use snc_args::Job;
 use snc_cli::{Lines, Outlet, source_in, tell, write};
