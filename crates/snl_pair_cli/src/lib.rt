@@ -2,8 +2,8 @@
 //! second program is a requirement.
 #![tactic(auto)]
 
-mod contrasting;
-mod guarding;
+mod pair_search;
+mod watched_search;
 
-pub use contrasting::answered_contrast;
-pub use guarding::answered_guard;
+pub use pair_search::answered_contrast;
+pub use watched_search::answered_guard;

@@ -2,8 +2,8 @@
 //! jobs.
 #![tactic(auto)]
 
-mod joining;
-mod searching;
+mod join;
+mod search;
 
-pub use joining::answered_join;
-pub use searching::answered_search;
+pub use join::answered_join;
+pub use search::answered_search;

@@ -1,6 +1,6 @@
 //! What no search may find: the test of `NAME.never`.
 
-use crate::trying::push_lines;
+use crate::trial::push_lines;
 use snc::{Job, Judgement, Status, judged};
 use snl_alphabet::WishFault;
 use snl_args::{Call, CallFault, SearchWords, Word, read_call};

@@ -3,7 +3,7 @@
 ghost use Rattle.std.specs.Prelude.{◌≡◌, ◌-◌, ◌^◌, ◌<◌, []};
 
 use crate::nevers::wrong_source;
-use crate::trying::{opened, push_lines, unread};
+use crate::trial::{opened, push_lines, unread};
 use snc::{Answered, Job, Status};
 use snl_args::Call;
 use snl_cli::{

@@ -2,8 +2,8 @@
 //! names is read here too.
 #![tactic(auto)]
 
-mod tracing;
+mod trace;
 mod units;
 
-pub use tracing::{answered_trace, check_times};
+pub use trace::{answered_trace, check_times};
 pub use units::units_for;

@@ -2,7 +2,7 @@
 
 ghost use Rattle.std.specs.Prelude.{◌≡◌, ◌-◌, ◌^◌, ◌<◌, []};
 
-use crate::trying::{opened, unread};
+use crate::trial::{opened, unread};
 use snc::{Answered, Status, status_of};
 use snl_cli::{Folder, Halt, Verdict, path_in, stuck, wrong};
 use snl_coverage::{Covered, Runner};

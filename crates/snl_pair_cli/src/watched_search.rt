@@ -1,6 +1,6 @@
 //! `snl search --watch`.
 
-use crate::contrasting::{Wished, wishes_of};
+use crate::pair_search::{Wished, wishes_of};
 use snc::{Answered, Judgement, Status, judged, macros_of};
 use snc_args::Job;
 use snc_cli::{source_in, tell, write};

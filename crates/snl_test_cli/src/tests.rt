@@ -1,9 +1,9 @@
 //! `snl test`: programs beside recorded traces and the outputs that are wanted.
 
-use crate::blessing::blessed;
+use crate::baseline::blessed;
 use crate::nevers::tested_never;
 use crate::requirements::{Watching, tested_watch, watching_of};
-use crate::trying::{outcome_of, verdict_of, wanted_status};
+use crate::trial::{outcome_of, verdict_of, wanted_status};
 use snc::{Answered, Status};
 use snl_args::{Call, TestWords};
 use snl_cli::{Folder, Halt, Tally, Verdict, folders_of, subject_of, told, wrong};
