@@ -4,37 +4,24 @@ use crate::faulty::fault_notes;
 use crate::forms::{NoteForm, Sheet};
 use crate::messages::push_messages;
 use crate::refused::{push_refused, push_too_deep};
-use snl_check::{Message, Options};
+use snl_check::{Message, Options, Outcome, check};
 use snl_lints::Text;
-use snl_messages::messages_and_uses;
 use snl_syntax::Program;
 use snl_text::{LexFault, Lexed, lex};
 use snl_tree::{ParseFault, parse};
 use std::alloc::{AllocError, Global};
 
 /// The messages about a program.
-fn messages_of<'a>(
+fn messages_of(
     alloc: Global,
-    program: &Program<'a>,
+    program: Program,
     given: Options,
 ) -> Result<Vec<Message>, AllocError> {
-    let (messages, _uses) = messages_and_uses(alloc, program, given)?;
+    let Outcome {
+        messages,
+        checked: _,
+    } = check(alloc, program, given)?;
     Ok(messages)
-}
-
-/// The messages about the program that tokens are, or why they are none.
-fn messages_in<'a>(
-    alloc: Global,
-    lexed: &Lexed<'a>,
-    given: Options,
-) -> Result<Result<Vec<Message>, ParseFault>, AllocError> {
-    match parse(alloc, lexed) {
-        Ok(program) => {
-            let messages = messages_of(alloc, &program, given)?;
-            Ok(Ok(messages))
-        }
-        Err(fault) => Ok(Err(fault)),
-    }
 }
 
 /// Adds the notes on tokens.
@@ -44,8 +31,11 @@ fn push_notes(
     lexed: &Lexed,
     given: Options,
 ) -> Result<(), AllocError> {
-    match messages_in(sheet.alloc, lexed, given)? {
-        Ok(messages) => { push_messages(out, sheet, lexed.tokens.as_slice(), messages.as_slice()) }
+    match parse(sheet.alloc, lexed) {
+        Ok(program) => {
+            let messages = messages_of(sheet.alloc, program, given)?;
+            push_messages(out, sheet, lexed.tokens.as_slice(), messages.as_slice())
+        }
         Err(ParseFault::Memory) => Err(AllocError),
         Err(ParseFault::Unexpected(at)) => push_refused(out, sheet, lexed, at),
         Err(ParseFault::TooDeep(at)) => push_too_deep(out, sheet, lexed, at),
