@@ -31,8 +31,6 @@ pub struct Unwritten<'a> {
 /// Where clauses are looked at that lead to a state.
 #[derive(Clone, Copy)]
 struct Way<'w, 'a> {
-    /// The definitions of the program.
-    definitions: &'w [Def<'a>],
     /// The name of the state.
     state: &'w [u8],
     /// What the names of the program mean.
@@ -115,17 +113,18 @@ fn has_lead(code: &[Touch], state: &[u8]) -> bool
 fn push_clause_to<'a>(
     alloc: Global,
     clause: &Clause<'a>,
+    definitions: &[Def<'a>],
     way: &Way<'_, 'a>,
     found: &mut Vec<Unwritten<'a>>,
 ) -> Result<(), AllocError>
     ensures { OnOk result (found.new.items ≡ found.old.items
-        ++ spec.in_clause_to (map definition_view way.now.definitions.now) way.now.state.now
+        ++ spec.in_clause_to (map definition_view definitions.now) way.now.state.now
         way.now.uses.now way.now.copy.now (clause_view clause.now)) }
 {
     let mut code = Vec::new(alloc);
     push_clause(clause, &mut code)?;
     if has_lead(code.as_slice(), way.state) {
-        push_all_called(way.definitions, &mut code)?;
+        push_all_called(definitions, &mut code)?;
         push_code(code.as_slice(), way, found)?;
     }
     Ok(())
@@ -135,15 +134,16 @@ fn push_clause_to<'a>(
 fn push_clauses_to<'a>(
     alloc: Global,
     clauses: &[Clause<'a>],
+    definitions: &[Def<'a>],
     way: &Way<'_, 'a>,
     found: &mut Vec<Unwritten<'a>>,
 ) -> Result<(), AllocError>
     ensures { OnOk result (found.new.items ≡ found.old.items
-        ++ flat_map (spec.in_clause_to (map definition_view way.now.definitions.now)
+        ++ flat_map (spec.in_clause_to (map definition_view definitions.now)
         way.now.state.now way.now.uses.now way.now.copy.now) (map clause_view clauses.now)) }
 {
     for clause in clauses {
-        push_clause_to(alloc, clause, way, found)?;
+        push_clause_to(alloc, clause, definitions, way, found)?;
     }
     Ok(())
 }
@@ -152,29 +152,31 @@ fn push_clauses_to<'a>(
 fn push_state_to<'a>(
     alloc: Global,
     state: &State<'a>,
+    definitions: &[Def<'a>],
     way: &Way<'_, 'a>,
     found: &mut Vec<Unwritten<'a>>,
 ) -> Result<(), AllocError>
     ensures { OnOk result (found.new.items ≡ found.old.items
-        ++ spec.in_state_to (map definition_view way.now.definitions.now) way.now.state.now
+        ++ spec.in_state_to (map definition_view definitions.now) way.now.state.now
         way.now.uses.now way.now.copy.now (state_view state.now)) }
 {
-    push_clauses_to(alloc, state.clauses.as_slice(), way, found)
+    push_clauses_to(alloc, state.clauses.as_slice(), definitions, way, found)
 }
 
 /// The same of states.
 fn push_states_to<'a>(
     alloc: Global,
     states: &[State<'a>],
+    definitions: &[Def<'a>],
     way: &Way<'_, 'a>,
     found: &mut Vec<Unwritten<'a>>,
 ) -> Result<(), AllocError>
     ensures { OnOk result (found.new.items ≡ found.old.items
-        ++ flat_map (spec.in_state_to (map definition_view way.now.definitions.now)
+        ++ flat_map (spec.in_state_to (map definition_view definitions.now)
         way.now.state.now way.now.uses.now way.now.copy.now) (map state_view states.now)) }
 {
     for state in states {
-        push_state_to(alloc, state, way, found)?;
+        push_state_to(alloc, state, definitions, way, found)?;
     }
     Ok(())
 }
@@ -184,17 +186,18 @@ fn push_set_to<'a>(
     alloc: Global,
     sets: &[StateSet<'a>],
     set: usize,
+    definitions: &[Def<'a>],
     way: &Way<'_, 'a>,
     found: &mut Vec<Unwritten<'a>>,
 ) -> Result<(), AllocError>
     ensures { OnOk result (found.new.items ≡ found.old.items
-        ++ spec.in_set_to (map definition_view way.now.definitions.now) way.now.state.now
+        ++ spec.in_set_to (map definition_view definitions.now) way.now.state.now
         way.now.uses.now way.now.copy.now (slice_get (map state_set_view sets.now) set)) }
 {
     if sets.len() <= set {
         return Ok(());
     }
-    push_states_to(alloc, sets[set].states.as_slice(), way, found)
+    push_states_to(alloc, sets[set].states.as_slice(), definitions, way, found)
 }
 
 /// What clauses that lead to a state read of the state set's copy that is never written, by what is known of the copy.
@@ -210,14 +213,11 @@ fn unwritten_by<'a>(
         (map definition_view program.now.definitions.items) state.now uses.now copy.now
         (slice_get (map state_set_view program.now.state_sets.items) set)) }
 {
-    let way = Way {
-        definitions: program.definitions.as_slice(),
-        state,
-        uses,
-        copy,
-    };
+    let way = Way { state, uses, copy };
+    let sets = program.state_sets.as_slice();
+    let definitions = program.definitions.as_slice();
     let mut found = Vec::new(alloc);
-    push_set_to(alloc, program.state_sets.as_slice(), set, &way, &mut found)?;
+    push_set_to(alloc, sets, set, definitions, &way, &mut found)?;
     Ok(found)
 }
 

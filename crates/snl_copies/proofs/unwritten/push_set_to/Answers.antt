@@ -12,7 +12,7 @@ use Rattle.snl_copies.proofs.unwritten.push_set_to.Goals as goal
 pub returns : goal.returns
 returns c =
     let w = c.args.way.now in
-    let defs = map definition_view w.definitions.now in
+    let defs = map definition_view c.args.definitions.now in
     let before = c.args.found.now.items in
     on_ok_weaker c.push_states_to.result
     (λ e. e
@@ -27,4 +27,4 @@ returns-then-sets-set c =
     let w = c.args.way.now in
     let before = c.args.found.now.items in
     sym (append-nil before)
-    ∙ ap (λ o. before ++ in_set_to (map definition_view w.definitions.now) w.state.now w.uses.now w.copy.now o) (sym (no_set c.args.sets.now c.args.set c.if-sets-set.true))
+    ∙ ap (λ o. before ++ in_set_to (map definition_view c.args.definitions.now) w.state.now w.uses.now w.copy.now o) (sym (no_set c.args.sets.now c.args.set c.if-sets-set.true))

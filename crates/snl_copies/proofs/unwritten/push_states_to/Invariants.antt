@@ -7,5 +7,5 @@ use Rattle.snl_copies.proofs.unwritten.push_states_to.Given as goal
 
 abbrev pub invariant-loop-state : goal.invariant-loop-state
 invariant-loop-state l =
-    l.found.items ++ flat_map (in_state_to (map definition_view l.way.definitions.now) l.way.state.now l.way.uses.now l.way.copy.now) (map state_view (drop l.state-index l.states))
-    ≡ l.initial.found.items ++ flat_map (in_state_to (map definition_view l.way.definitions.now) l.way.state.now l.way.uses.now l.way.copy.now) (map state_view l.states)
+    l.found.items ++ flat_map (in_state_to (map definition_view l.definitions) l.way.state.now l.way.uses.now l.way.copy.now) (map state_view (drop l.state-index l.states))
+    ≡ l.initial.found.items ++ flat_map (in_state_to (map definition_view l.definitions) l.way.state.now l.way.uses.now l.way.copy.now) (map state_view l.states)
