@@ -111,12 +111,15 @@ module _ (g : Ground) where
       at false = (e.outside.copies set).entered
 
   -- of runs
-  flow-in-runs : (sets : ℕ) → 0 < sets → AreAlikeInRuns sets (λ n m. n ≡ m) (IsAlike g) (SameButValues g.names)
+  flow-in-runs : (sets : ℕ) → 0 < sets → AreAlikeInRuns sets (λ n m. n ≡ m) (IsAlike g) (λ set state. IsAlike g) (SameButValues g.names)
   flow-in-runs sets some = record {
     some = some;
     keeps = λ set low. flow-keeps set;
+    keeps_in = λ set state low. flow-keeps set;
     states = λ set low w u e. (e.outside.copies set).state;
-    enters = λ set state is_timed low w u e. enter set state is_timed w u e;
+    inside = λ set low w u e. e;
+    outside = λ set state w u e. e;
+    enters = λ set from state is_timed low either w u e. enter set state is_timed w u e;
     opens = λ w u e. record {
       links = record { channels = e.links.channels; ties = e.links.ties; homes = e.links.homes };
       outside = record { same = ap (λ (v : World). record v { due = None }) e.outside.same; long = e.outside.long; count = e.outside.count; copies = e.outside.copies };
@@ -173,7 +176,7 @@ lines_flow p ls c hidden lines names flows waits budget ms event w u right some 
     let there : AreReached p reached u = reached-in-both hidden p c w u e can.reached in
     let less = line_of (only_reached reached (program_meaning p ls waits)) budget ms event in
     let both : Alike (IsLeftOut lines) (IsAlike g) (SameButValues names) (less w) (less u) =
-    line-alike (IsLeftOut lines) sets (λ n m. n ≡ m) (IsAlike g) (SameButValues names) (flow-in-runs g sets some) (only_reached reached (program_meaning p ls waits))
+    line-alike (IsLeftOut lines) sets (λ n m. n ≡ m) (IsAlike g) (λ set state. IsAlike g) (SameButValues names) (flow-in-runs g sets some) (only_reached reached (program_meaning p ls waits))
     (program-agrees (IsLeftOut lines) (IsAlike g) (SameButValues names) NoLines (texts-joined names) p reached
     (λ name piece is. piece-agrees g p piece (pieces_flow p ls c hidden lines names flows right name piece is)) ls waits) budget ms ms refl event w u (record { links = links; outside = e }) in
     subst (λ (r : Ran Live). Alike (IsLeftOut lines) (IsSameOutside hidden) (SameButValues names) r (line_of (program_meaning p ls waits) budget ms event u))

@@ -21,6 +21,10 @@ use Rattle.snl_alike.specs.Runs.{ClausesAgree, ProgramAgrees, SetsAgree, StateAg
 use Rattle.snl_alike.specs.TwoRuns.{Agrees, Alike, BothGive, BothFault, FirstLeftOut, SecondLeftOut}
 
 module _ (X : Fault → ℕ → Type 0) (E : World → World → Type 0) (T : List ℕ → List ℕ → Type 0) (silent : T [] []) (joined : (a b c d : List ℕ) → T a b → T c d → T (a ++ c) (b ++ d)) where
+  -- nothing more is known while a state set is in a state
+  abbrev pub In : (set state : ℕ) → World → World → Type 0
+  In set state = E
+
   -- a piece comes out alike
   abbrev pub PieceAgrees : ProgramTree → PieceTree → Type 0
   PieceAgrees p (Test set e) = Agrees X E T (held_by (scene_in p set) (Some e))
@@ -102,7 +106,7 @@ module _ (X : Fault → ℕ → Type 0) (E : World → World → Type 0) (T : Li
 
     -- states
     states-agree : (set : ℕ) (g : StateSetTree) → slice_get p.state_sets set ≡ Some g → (n : ℕ) (qs : List StateTree) → ((i : ℕ) → slice_get qs i ≡ slice_get g.states (n + i)) →
-        StatesAgree X E T (states_reached (reached set) n (map (state_meaning (scene_in p set)) qs))
+        StatesAgree X In T set n (states_reached (reached set) n (map (state_meaning (scene_in p set)) qs))
     states-agree set g at n [] here = tt
     states-agree set g at n (q ∷ qs) here = (
       reached-agrees set n q (ap (option_and_then (λ (x : StateSetTree). slice_get x.states n)) at ∙ ap (slice_get g.states) (omega arith) ∙ sym (here 0)) (reached set n) refl,
@@ -111,7 +115,7 @@ module _ (X : Fault → ℕ → Type 0) (E : World → World → Type 0) (T : Li
 
     -- state sets
     sets-agree : (k : ℕ) (gs : List StateSetTree) → ((i : ℕ) → slice_get gs i ≡ slice_get p.state_sets (k + i)) → k + length gs ≤ length p.state_sets →
-        SetsAgree X E T (length p.state_sets) (map (set_reached reached) (set_meanings p k gs))
+        SetsAgree X In T (length p.state_sets) (map (set_reached reached) (set_meanings p k gs))
     sets-agree k [] here within = tt
     sets-agree k (g ∷ gs) here within =
         let low : k < length p.state_sets = omega (arith, within) in
@@ -121,7 +125,7 @@ module _ (X : Fault → ℕ → Type 0) (E : World → World → Type 0) (T : Li
         )
 
     -- a program
-    pub program-agrees : (ls : List Link) (waits : Bool) → ProgramAgrees X E T (length p.state_sets) (only_reached reached (program_meaning p ls waits))
+    pub program-agrees : (ls : List Link) (waits : Bool) → ProgramAgrees X E In T (length p.state_sets) (only_reached reached (program_meaning p ls waits))
     program-agrees ls waits = record {
       entry = block-agrees 0 ProgramEntry p.entry refl;
       exit = block-agrees 0 ProgramExit p.exit refl;

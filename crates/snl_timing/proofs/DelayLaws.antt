@@ -1,11 +1,11 @@
 -- Delays in lists of parts, one after another.
-use Rattle.std.proofs.Common.{◌≡◌, ◌∙◌, Box, Global, ℕ, zero, suc, List, [], ◌∷◌, ◌++◌, Some, Vec, ap, map, subst, sym}
+use Rattle.std.proofs.Common.{◌≡◌, ◌∙◌, Box, Global, ℕ, zero, suc, List, [], ◌∷◌, ◌++◌, Option, Some, Vec, ap, map, subst, sym}
 use Rattle.std.specs.List.{flat_map}
 use Rattle.snl_text.specs.declared.tokens.Token.{Token}
 use Rattle.snl_alike.specs.declared.timing.SetTiming.{SetTiming}
-use Rattle.snl_alike.specs.Delays.{DelaysAmong, DelaysAt, DelaysEach, DelaysIn, DelaysInBlock, DelaysInBodies, DelaysInNames, IsShort, longest_in}
+use Rattle.snl_alike.specs.Delays.{DelaysAmong, DelaysAt, DelaysEach, DelaysIn, DelaysInBlock, DelaysInBlockMaybe, DelaysInBodies, DelaysInNames, IsShort, longest_in, longests_of}
 use Rattle.snl_alike.specs.Timing.{longests_in}
-use Rattle.snl_alike.proofs.Delays.{any-bodies}
+use Rattle.snl_alike.proofs.Delays.{any-blocks, any-bodies}
 use Rattle.snl_flat.specs.Heres.{routine_of}
 use Rattle.snl_meaning.specs.Effect.{names_of, values_of}
 use Rattle.snl_names.proofs.ListLaws.{listed_of}
@@ -31,6 +31,7 @@ use Rattle.snl_syntax.specs.Declarations.{DeclaratorTree}
 use Rattle.snl_syntax.specs.Expressions.{ExprTree, call, chain, no_arguments}
 use Rattle.snl_syntax.specs.Functions.{FunctionTree}
 use Rattle.snl_syntax.specs.Programs.{ProgramTree}
+use Rattle.snl_syntax.specs.Statements.{BlockTree}
 
 module _ (D : ExprTree → Type 0) where
   -- one argument more
@@ -91,21 +92,51 @@ module _ (D : ExprTree → Type 0) where
 -- ---- tables
 
 module _ (definitions : List Def) where
-  -- The bodies of functions are short by a state set,
-  abbrev pub BodiesAreShortBy : SetTiming → Type 0
-  BodiesAreShortBy x = (p : ProgramTree) → DelaysInBodies (IsShort x.longest) (map (routine_of p) (flat_map function_by (map definition_view definitions)))
+  -- The bodies of functions are short by a longest delay,
+  abbrev pub BodiesAreShortBy : Option ℕ → Type 0
+  BodiesAreShortBy longest = (p : ProgramTree) → DelaysInBodies (IsShort longest) (map (routine_of p) (flat_map function_by (map definition_view definitions)))
 
-  -- and by each state set of a table.
+  -- by those of each state,
+  abbrev pub BodiesAreShortIn : List (Option ℕ) → Type 0
+  BodiesAreShortIn longests = (p : ProgramTree) (state : ℕ) →
+      DelaysInBodies (IsShort (longest_in longests state)) (map (routine_of p) (flat_map function_by (map definition_view definitions)))
+
+  -- and by those of each state set of a table.
   abbrev pub BodiesAreShort : List SetTiming → Type 0
-  BodiesAreShort table = (p : ProgramTree) (set : ℕ) →
-      DelaysInBodies (IsShort (longest_in (longests_in table) set)) (map (routine_of p) (flat_map function_by (map definition_view definitions)))
+  BodiesAreShort table = (p : ProgramTree) (set state : ℕ) →
+      DelaysInBodies (IsShort (longest_in (longests_of (longests_in table) set) state)) (map (routine_of p) (flat_map function_by (map definition_view definitions)))
 
-  -- one more
-  pub by-table : (x : SetTiming) (rest : List SetTiming) → BodiesAreShortBy x → BodiesAreShort rest → BodiesAreShort (x ∷ rest)
-  by-table x rest here more p zero = here p
-  by-table x rest here more p (suc set) = more p set
+  -- one state more
+  pub by-longests : (x : Option ℕ) (rest : List (Option ℕ)) → BodiesAreShortBy x → BodiesAreShortIn rest → BodiesAreShortIn (x ∷ rest)
+  by-longests x rest here more p zero = here p
+  by-longests x rest here more p (suc state) = more p state
+
+  -- no state
+  pub by-no-longests : BodiesAreShortIn []
+  by-no-longests p zero = any-bodies (map (routine_of p) (flat_map function_by (map definition_view definitions)))
+  by-no-longests p (suc state) = any-bodies (map (routine_of p) (flat_map function_by (map definition_view definitions)))
+
+  -- one state set more
+  pub by-table : (x : SetTiming) (rest : List SetTiming) → BodiesAreShortIn x.longests.items → BodiesAreShort rest → BodiesAreShort (x ∷ rest)
+  by-table x rest here more p zero state = here p state
+  by-table x rest here more p (suc set) state = more p set state
 
   -- a table of none
   pub by-no-table : BodiesAreShort []
-  by-no-table p zero = any-bodies (map (routine_of p) (flat_map function_by (map definition_view definitions)))
-  by-no-table p (suc set) = any-bodies (map (routine_of p) (flat_map function_by (map definition_view definitions)))
+  by-no-table p zero state = by-no-longests p state
+  by-no-table p (suc set) state = by-no-longests p state
+
+module _ (block : Option BlockTree) where
+  -- A block is short by the longest delays of each state.
+  abbrev pub BlockIsShortIn : List (Option ℕ) → Type 0
+  BlockIsShortIn longests = (state : ℕ) → DelaysInBlockMaybe (IsShort (longest_in longests state)) block
+
+  -- one state more
+  pub block-by-longests : (x : Option ℕ) (rest : List (Option ℕ)) → DelaysInBlockMaybe (IsShort x) block → BlockIsShortIn rest → BlockIsShortIn (x ∷ rest)
+  block-by-longests x rest here more zero = here
+  block-by-longests x rest here more (suc state) = more state
+
+  -- no state
+  pub block-by-none : BlockIsShortIn []
+  block-by-none zero = any-blocks block
+  block-by-none (suc state) = any-blocks block

@@ -3,7 +3,7 @@
 ghost use Rattle.std.specs.Prelude.{◌≡◌, ℕ, [], ◌∷◌, map, IsTrue, Some};
 ghost use Rattle.std.specs.List.{flat_map};
 ghost use Rattle.snl_alike.specs.Delays as spec;
-ghost use Rattle.snl_alike.specs.Delays.{AreShort, DelaysInBlockMaybe, DelaysInBodies, DelaysInClauses, DelaysInSets, DelaysInStates, IsShort};
+ghost use Rattle.snl_alike.specs.Delays.{AreShort, DelaysInBlockMaybe, DelaysInBodies, DelaysInClauses, DelaysInSets, DelaysInState, DelaysInStates, IsShort};
 ghost use Rattle.snl_alike.specs.Timing.{longests_in};
 ghost use Rattle.snl_flat.specs.Heres.{routine_of};
 ghost use Rattle.snl_names.specs.Variables.{function_by};
@@ -41,23 +41,11 @@ fn are_short_clauses<'a>(longest: u32, clauses: &[Clause<'a>]) -> bool
 
 /// The same in a state.
 fn is_short_state<'a>(longest: u32, state: &State<'a>) -> bool
-    ensures { IsTrue result → DelaysInStates (IsShort (Some longest)) (state_view state.now ∷ []) }
+    ensures { IsTrue result → DelaysInState (IsShort (Some longest)) (state_view state.now) }
 {
     are_short_maybe_block(longest, &state.entry)
         && are_short_clauses(longest, state.clauses.as_slice())
         && are_short_maybe_block(longest, &state.exit)
-}
-
-/// The same in states.
-fn are_short_states<'a>(longest: u32, states: &[State<'a>]) -> bool
-    ensures { IsTrue result → DelaysInStates (IsShort (Some longest)) (map state_view states.now) }
-{
-    for state in states {
-        if !is_short_state(longest, state) {
-            return false;
-        }
-    }
-    true
 }
 
 /// The same in the body of a definition, if it is a function.
@@ -84,37 +72,51 @@ fn are_short_bodies<'a>(longest: u32, definitions: &[Def<'a>]) -> bool
     true
 }
 
-/// Whether each `delay` in the bodies of functions is short by the longest one of a state set, where one is known.
-fn are_short_bodies_by<'a>(definitions: &[Def<'a>], timing: &SetTiming) -> bool
-    ensures { IsTrue result → (p : ProgramTree) → DelaysInBodies (IsShort timing.now.longest)
+/// Whether each `delay` in the bodies of functions is short by a longest one, where one is known.
+fn are_short_bodies_by<'a>(definitions: &[Def<'a>], longest: Option<u32>) -> bool
+    ensures { IsTrue result → (p : ProgramTree) → DelaysInBodies (IsShort longest)
         (map (routine_of p) (flat_map function_by (map definition_view definitions.now))) }
 {
-    match timing.longest {
+    match longest {
         Some(longest) => are_short_bodies(longest, definitions),
         None => true,
     }
 }
 
-/// The same by that of each state set of a table.
-fn are_short_bodies_for<'a>(definitions: &[Def<'a>], table: &[SetTiming]) -> bool
-    ensures { IsTrue result → (p : ProgramTree) (set : ℕ) →
-        DelaysInBodies (IsShort (spec.longest_in (longests_in table.now) set))
+/// The same by that of each state of a state set.
+fn are_short_bodies_in<'a>(definitions: &[Def<'a>], longests: &[Option<u32>]) -> bool
+    ensures { IsTrue result → (p : ProgramTree) (state : ℕ) →
+        DelaysInBodies (IsShort (spec.longest_in longests.now state))
         (map (routine_of p) (flat_map function_by (map definition_view definitions.now))) }
 {
-    for timing in table {
-        if !are_short_bodies_by(definitions, timing) {
+    for longest in longests {
+        if !are_short_bodies_by(definitions, *longest) {
             return false;
         }
     }
     true
 }
 
-/// Whether each `delay` in states is short by the longest one of their state set, where one is known.
-fn are_short_states_by<'a>(longest: Option<u32>, states: &[State<'a>]) -> bool
-    ensures { IsTrue result → DelaysInStates (IsShort longest) (map state_view states.now) }
+/// The same by those of each state set of a table.
+fn are_short_bodies_for<'a>(definitions: &[Def<'a>], table: &[SetTiming]) -> bool
+    ensures { IsTrue result → (p : ProgramTree) (set state : ℕ) → DelaysInBodies
+        (IsShort (spec.longest_in (spec.longests_of (longests_in table.now) set) state))
+        (map (routine_of p) (flat_map function_by (map definition_view definitions.now))) }
+{
+    for timing in table {
+        if !are_short_bodies_in(definitions, timing.longests.as_slice()) {
+            return false;
+        }
+    }
+    true
+}
+
+/// Whether each `delay` in a state is short by its longest one, where one is known.
+fn is_short_state_by<'a>(longest: Option<u32>, state: &State<'a>) -> bool
+    ensures { IsTrue result → DelaysInState (IsShort longest) (state_view state.now) }
 {
     match longest {
-        Some(longest) => are_short_states(longest, states),
+        Some(longest) => is_short_state(longest, state),
         None => true,
     }
 }
@@ -130,46 +132,84 @@ fn is_short_block_by<'a>(longest: Option<u32>, block: &Option<Box<Block<'a>>>) -
     }
 }
 
-/// What a table says of the longest delay of a state set; None where it says nothing.
-fn longest_in(table: &[SetTiming], number: usize) -> Option<u32>
-    ensures { result ≡ spec.longest_in (longests_in table.now) number }
+/// The same by that of each state of a state set.
+fn is_short_block_in<'a>(longests: &[Option<u32>], block: &Option<Box<Block<'a>>>) -> bool
+    ensures { IsTrue result → (state : ℕ) →
+        DelaysInBlockMaybe (IsShort (spec.longest_in longests.now state))
+        (shown (held block_view) block.now) }
 {
-    match table.get(number) {
-        Some(set) => set.longest,
-        None => None,
-    }
-}
-
-/// Whether each `delay` in the states of state sets is short by a table.
-fn are_short_sets<'a>(sets: &[StateSet<'a>], table: &[SetTiming]) -> bool
-    ensures { IsTrue result → DelaysInSets
-        (λ set. IsShort (spec.longest_in (longests_in table.now) set))
-        0 (map state_set_view sets.now) }
-{
-    for (number, set) in sets.iter().enumerate() {
-        let longest = longest_in(table, number);
-        if !are_short_states_by(longest, set.states.as_slice()) {
+    for longest in longests {
+        if !is_short_block_by(*longest, block) {
             return false;
         }
     }
     true
 }
 
-/// Whether no `delay` of a program is longer than a table says of each state set that may come to it.
+/// The longest delay of a state, by its number; None where nothing is said of it.
+fn longest_in(longests: &[Option<u32>], state: usize) -> Option<u32>
+    ensures { result ≡ spec.longest_in longests.now state }
+{
+    match longests.get(state) {
+        Some(longest) => *longest,
+        None => None,
+    }
+}
+
+/// Whether each `delay` in states is short by the longest ones of these states.
+fn are_short_states<'a>(longests: &[Option<u32>], states: &[State<'a>]) -> bool
+    ensures { IsTrue result → DelaysInStates
+        (λ state. IsShort (spec.longest_in longests.now state)) 0 (map state_view states.now) }
+{
+    for (number, state) in states.iter().enumerate() {
+        let longest = longest_in(longests, number);
+        if !is_short_state_by(longest, state) {
+            return false;
+        }
+    }
+    true
+}
+
+/// What a table says of the longest delays of a state set; nothing where it does not speak of it.
+fn longests_of(table: &[SetTiming], number: usize) -> &[Option<u32>]
+    ensures { result.now ≡ spec.longests_of (longests_in table.now) number }
+{
+    match table.get(number) {
+        Some(set) => set.longests.as_slice(),
+        None => &[],
+    }
+}
+
+/// Whether each `delay` in the states of state sets is short by a table.
+fn are_short_sets<'a>(sets: &[StateSet<'a>], table: &[SetTiming]) -> bool
+    ensures { IsTrue result → DelaysInSets (λ set state. IsShort
+        (spec.longest_in (spec.longests_of (longests_in table.now) set) state)) 0
+        (map state_set_view sets.now) }
+{
+    for (number, set) in sets.iter().enumerate() {
+        let longests = longests_of(table, number);
+        if !are_short_states(longests, set.states.as_slice()) {
+            return false;
+        }
+    }
+    true
+}
+
+/// Whether no `delay` of a program is longer than a table says of the state in which a state set is that may come to it.
 pub fn are_short<'a>(program: &Program<'a>, table: &[SetTiming]) -> bool
     ensures { IsTrue result → AreShort (longests_in table.now) (program_view program.now) }
 {
     if !are_short_bodies_for(program.definitions.as_slice(), table) {
         return false;
     }
-    let first = longest_in(table, 0);
-    if !is_short_block_by(first, &program.entry) {
+    let first = longests_of(table, 0);
+    if !is_short_block_in(first, &program.entry) {
         return false;
     }
     if !are_short_sets(program.state_sets.as_slice(), table) {
         return false;
     }
-    is_short_block_by(first, &program.exit)
+    is_short_block_in(first, &program.exit)
 }
 
 /// Whether a number is less than one that is known, if one is.
@@ -191,11 +231,22 @@ pub fn longest_in_functions<'a>(definitions: &[Def<'a>], tried: &[u32]) -> Optio
     longest
 }
 
-/// The same of states.
-pub fn longest_in_states<'a>(states: &[State<'a>], tried: &[u32]) -> Option<u32> {
+/// The same of a state.
+pub fn longest_in_state<'a>(state: &State<'a>, tried: &[u32]) -> Option<u32> {
     let mut longest: Option<u32> = None;
     for ms in tried {
-        if is_less(*ms, longest) && are_short_states(*ms, states) {
+        if is_less(*ms, longest) && is_short_state(*ms, state) {
+            longest = Some(*ms);
+        }
+    }
+    longest
+}
+
+/// The same of a block that may be missing.
+pub fn longest_in_block<'a>(block: &Option<Box<Block<'a>>>, tried: &[u32]) -> Option<u32> {
+    let mut longest: Option<u32> = None;
+    for ms in tried {
+        if is_less(*ms, longest) && are_short_maybe_block(*ms, block) {
             longest = Some(*ms);
         }
     }

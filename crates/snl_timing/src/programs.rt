@@ -7,11 +7,11 @@ ghost use Rattle.snl_meaning.specs.Names.{words_of};
 ghost use Rattle.snl_names.specs.CopyVariables.{variable_view};
 ghost use Rattle.snl_syntax.specs.view.Programs.{program_view};
 
-use crate::parts::{are_short, longest_in_functions, longest_in_states};
+use crate::parts::{are_short, longest_in_block, longest_in_functions, longest_in_state};
 use snl_alike::{SetTiming, Timing};
 use snl_flat::copies_of;
 use snl_names::CopyVariable;
-use snl_syntax::{Program, StateSet};
+use snl_syntax::{Program, State, StateSet};
 use std::alloc::{AllocError, Global};
 
 /// How many words variables have; None where no number holds that.
@@ -25,43 +25,76 @@ fn size_of(variables: &[CopyVariable]) -> Option<usize>
     Some(size)
 }
 
-/// The longest `delay` in each state set, of those that are tried; None where there is none.
-fn longests_of<'a>(
-    alloc: Global,
-    sets: &[StateSet<'a>],
-    tried: &[u32],
-) -> Result<Vec<Option<u32>>, AllocError> {
-    let mut longests = Vec::new(alloc);
-    for set in sets {
-        let longest = longest_in_states(set.states.as_slice(), tried);
-        longests.push(longest)?;
-    }
-    Ok(longests)
-}
-
-/// The longest `delay` in the state set of a number, or in functions; None where one of them is not known.
-fn longest_at(in_states: &[Option<u32>], number: usize, in_functions: Option<u32>) -> Option<u32> {
-    match (in_states.get(number), in_functions) {
-        (Some(Some(in_set)), Some(in_functions)) => Some(in_functions.max(*in_set)),
+/// The longer one of two delays; None where one of them is not known.
+fn longer_of(one: Option<u32>, other: Option<u32>) -> Option<u32> {
+    match (one, other) {
+        (Some(one), Some(other)) => Some(one.max(other)),
         _ => None,
     }
 }
 
-/// How many words the copy of each state set has, with its longest delay of those that are known; None where no number holds a size.
+/// The longest `delay` in each of some states, or beside them, of those that are tried; None where there is none.
+fn longests_of<'a>(
+    alloc: Global,
+    states: &[State<'a>],
+    beside: Option<u32>,
+    tried: &[u32],
+) -> Result<Vec<Option<u32>>, AllocError> {
+    let mut longests = Vec::new(alloc);
+    for state in states {
+        let longest = longest_in_state(state, tried);
+        longests.push(longer_of(longest, beside))?;
+    }
+    Ok(longests)
+}
+
+/// The same of the states of each state set, where something else may stand beside those of the first one.
+fn longests_by<'a>(
+    alloc: Global,
+    sets: &[StateSet<'a>],
+    first: Option<u32>,
+    beside: Option<u32>,
+    tried: &[u32],
+) -> Result<Vec<Vec<Option<u32>>>, AllocError> {
+    let mut all = Vec::new(alloc);
+    let mut known = first;
+    for set in sets {
+        let longests = longests_of(alloc, set.states.as_slice(), known, tried)?;
+        all.push(longests)?;
+        known = beside;
+    }
+    Ok(all)
+}
+
+/// The longest delays of the state set of a number; none where there are none.
+fn longests_at(
+    alloc: Global,
+    longests: &[Vec<Option<u32>>],
+    number: usize,
+) -> Result<Vec<Option<u32>>, AllocError> {
+    match longests.get(number) {
+        Some(own) => Vec::from_slice(alloc, own.as_slice()),
+        None => Ok(Vec::new(alloc)),
+    }
+}
+
+/// How many words the copy of each state set has, with the longest delays of its states; None where no number holds a size.
 fn table_of(
     alloc: Global,
     held: &[Vec<CopyVariable>],
-    in_states: &[Option<u32>],
-    in_functions: Option<u32>,
+    longests: &[Vec<Option<u32>>],
 ) -> Result<Option<Vec<SetTiming>>, AllocError>
     ensures { IfOk result (λ table. IfSome table (λ all.
         sizes_in all.items ≡ map words_of (sets_of held.now))) }
 {
     let mut table = Vec::new(alloc);
     for variables in held {
-        let longest = longest_at(in_states, table.len(), in_functions);
+        let own = longests_at(alloc, longests, table.len())?;
         match size_of(variables.as_slice()) {
-            Some(size) => table.push(SetTiming { size, longest })?,
+            Some(size) => table.push(SetTiming {
+                size,
+                longests: own,
+            })?,
             None => return Ok(None),
         }
     }
@@ -80,16 +113,20 @@ fn timing_by<'a>(
     let copies = copies_of(alloc, program)?;
     let held = copies.held.as_slice();
     let in_functions = longest_in_functions(program.definitions.as_slice(), tried);
-    let in_states = longests_of(alloc, program.state_sets.as_slice(), tried)?;
-    match table_of(alloc, held, in_states.as_slice(), in_functions)? {
+    let in_entry = longest_in_block(&program.entry, tried);
+    let in_exit = longest_in_block(&program.exit, tried);
+    let first = longer_of(in_functions, longer_of(in_entry, in_exit));
+    let sets = program.state_sets.as_slice();
+    let longests = longests_by(alloc, sets, first, in_functions, tried)?;
+    match table_of(alloc, held, longests.as_slice())? {
         Some(sets) if are_short(program, sets.as_slice()) => Ok(Some(Timing { sets })),
         _ => Ok(None),
     }
 }
 
-/// What is known of the times of a program: of each state set how many words it has, and that no `delay` that it may come to is longer
-/// than so many milliseconds, where each of these has a constant: it is one of those that are tried. None where a program has no state
-/// set, or too many words for a number. The only error is that memory ends.
+/// What is known of the times of a program: of each state set how many words it has, and, for each of its states, that no `delay` that it
+/// may come to in that is longer than so many milliseconds, where each of these has a constant: it is one of those that are tried. None
+/// where a program has no state set, or too many words for a number. The only error is that memory ends.
 pub fn timing_of<'a>(
     alloc: Global,
     program: &Program<'a>,

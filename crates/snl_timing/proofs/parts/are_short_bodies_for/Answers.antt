@@ -1,7 +1,7 @@
-use Rattle.std.proofs.Common.{None, refl, rules, slice_index_or}
+use Rattle.std.proofs.Common.{ℕ, List, Option, refl, rules, subst}
 use Rattle.std.proofs.lemmas.Option.{slice_get_read}
 use Rattle.snl_alike.specs.declared.timing.SetTiming.{SetTiming}
-use Rattle.snl_timing.proofs.DelayLaws.{BodiesAreShort, by-no-table, by-table}
+use Rattle.snl_timing.proofs.DelayLaws.{BodiesAreShort, BodiesAreShortIn, by-no-table, by-table}
 use Rattle.snl_timing.proofs.Steps.{all-of, one-from}
 use Rattle.snl_timing.proofs.parts.are_short_bodies_for.Goals as goal
 
@@ -10,10 +10,11 @@ loop-timing-preserved c =
     let definitions = c.args.definitions.now in
     let table = c.args.table.now in
     let n = c.loop-timing.timing-index in
-    let it : SetTiming = slice_index_or table n (record { size = 0; longest = None }) in
+    let it : SetTiming = c.timing-item.result in
     one-from (λ k l. BodiesAreShort definitions l) table n it c.loop-timing-test.true
     (slice_get_read table _ n it refl c.loop-timing-test.true (search rules)) c.loop-timing.invariant
-    (λ rest more. by-table definitions it rest (c.are_short_bodies_by.ensures c.if-not-are_short_bodies_by.false) more)
+    (λ rest more. by-table definitions it rest
+    (subst (λ (ls : List (Option ℕ)). BodiesAreShortIn definitions ls) c.as_slice.ensures.value (c.are_short_bodies_in.ensures c.if-not-are_short_bodies_in.false)) more)
 
 pub returns : goal.returns
 returns c = λ yes.
