@@ -6,11 +6,12 @@ use Rattle.snl_meaning.specs.declared.instrs.Instr.{Instr}
 use Rattle.snl_meaning.specs.declared.instrs.Instr.TheVariants.{Push, Load, Check, Get, Peek, Store, StoreAt, Adjust, Increment, AdjustAt, Apply, ApplyNumber, ApplyPrefix, Settle, Drop, Jump, JumpIfZero, Tick, Print, Wait, Put, PutAt, Ask, AskLink, AskElement, Clear, Assign, Call, Fit, Return, Leave, End}
 use Rattle.snl_meaning.specs.declared.instrs.Variable.{Variable}
 use Rattle.snl_meaning.specs.declared.ties.Tied.{Tied}
+use Rattle.snl_meaning.specs.Names.{format_text}
 use Rattle.snl_meaning.specs.Run.{Entry}
 use Rattle.snl_meaning.specs.Words.{element_place}
 use Rattle.snl_text.specs.declared.kinds.Kind.{Kind}
-use Rattle.snl_flows.specs.Checks.{ChecksAreRight, are_all_same, are_bound, are_fine, are_first_same, are_no_more, are_put, are_put_by, are_same_at, begins, is_bound, is_fine_at, is_named, is_put, is_put_at, is_put_by, is_put_of, is_read, is_same_at, is_same_in, known_at, leads, leads_after, may_get_other, may_overflow, prefix_may_overflow}
-use Rattle.snl_flows.specs.Fine.{AreFine, Begins, IsAnyElement, IsBound, IsFineAt, IsPut, IsPutBy, LeadsTo, MayBecomeOther, settled_of}
+use Rattle.snl_flows.specs.Checks.{ChecksAreRight, are_all_same, are_bound, are_fine, are_first_same, are_no_more, are_put, are_put_by, are_same_at, begins, is_bound, is_fine_at, is_named, is_printed, is_put, is_put_at, is_put_by, is_put_of, is_read, is_same_at, is_same_in, known_at, leads, leads_after, may_get_other, may_overflow, prefix_may_overflow}
+use Rattle.snl_flows.specs.Fine.{AreFine, Begins, IsAnyElement, IsBound, IsFineAt, IsPrinted, IsPut, IsPutBy, LeadsTo, MayBecomeOther, settled_of}
 use Rattle.snl_flows.specs.Outside.{has}
 use Rattle.snl_flows.specs.Tables.{Operand, Another, Same, Within, CanBe, IsSameIn, top_of, below, under, Flow, Ground, IsReached, facts_at, said_at}
 use Rattle.snl_flows.proofs.Checks.{all-no-more, all-same, first-same, first-same-at, gets-other, leads-more, leads-one, leads-to, named-by, overflows, prefix-overflows, read-by, same-in, words-behind, words-same}
@@ -57,6 +58,15 @@ module _ (g : Ground) (set : ℕ) (f : Flow) where
     where
       from-none : (k : ℕ) → 0 + k ≡ k
       from-none k = omega arith
+
+  -- ---- prints
+
+  -- a `printf`
+  printed-by : (at format n : ℕ) → is_printed g set f at format n ≡ true → IsPrinted g set f at format n
+  printed-by at format n said =
+      ⊎_elim (λ (same : are_first_same n (known_at g set f at) ≡ true). inl (first-same n (known_at g set f at) same))
+      (λ (named : is_named g.names (format_text g.formats format) ≡ true). inr (named-by g.names (format_text g.formats format) named))
+      (or_cases (are_first_same n (known_at g set f at)) (is_named g.names (format_text g.formats format)) said)
 
   -- ---- calls
 
@@ -178,7 +188,7 @@ module _ (g : Ground) (set : ℕ) (f : Flow) where
         let one = and_parts (is_same_in (top_of os)) (leads g set f at (at + 1) (below os)) two.0 in
         (same-in (top_of os) one.0, leads-to g set f at (at + 1) (below os) one.1, leads-to g set f at (at + 1 + n) (below os) two.1)
     fine-at (Tick line back) said = leads-to g set f at (at - back) os said
-    fine-at (Print format n) said = with-test (are_first_same n os) (at + 1) (Same ∷ under n os) (first-same n os) said
+    fine-at (Print format n) said = with-test (is_printed g set f at format n) (at + 1) (Same ∷ under n os) (printed-by at format n) said
     fine-at (Wait in_seconds) said = with-test (is_same_in (top_of os)) (at + 1) (Same ∷ below os) (same-in (top_of os)) said
     fine-at (Put v async) said = with-test (is_put g set f at v.place) (at + 1) (Same ∷ os) (put-at at v.place) said
     fine-at (PutAt v async) said =

@@ -1,5 +1,5 @@
 -- What each instruction does in two runs, where a table is right at its address.
-use Rattle.std.proofs.Common.{◌≡◌, ◌+◌, ◌-◌, ⊎_elim, refl, sym, subst, ℕ, ℤ, pos, Bool, true, List, [], ◌∷◌, if◌then◌else◌}
+use Rattle.std.proofs.Common.{◌≡◌, ◌+◌, ◌-◌, ⊎_elim, refl, sym, ap, subst, ℕ, ℤ, pos, Bool, true, List, [], ◌∷◌, reverse, take, if◌then◌else◌}
 use Rattle.std.specs.Prelude.{◌&&◌, int_le, slice_get}
 use Rattle.snl_arithmetic.specs.Arithmetic.{computed, computed_prefix, is_zero}
 use Rattle.snl_text.specs.declared.kinds.Kind.{Kind}
@@ -8,22 +8,24 @@ use Rattle.snl_meaning.specs.declared.instrs.Instr.TheVariants.{Push, Load, Chec
 use Rattle.snl_meaning.specs.declared.instrs.Variable.{Variable}
 use Rattle.snl_meaning.specs.Asking.{asked, ask_element}
 use Rattle.snl_meaning.specs.Names.{format_text}
+use Rattle.snl_meaning.specs.Printing.{printed_line}
 use Rattle.snl_meaning.specs.Ran.{Ran, Gives, then_do}
 use Rattle.snl_meaning.specs.declared.faults.Fault.TheVariants.{DoesNotFit}
 use Rattle.snl_meaning.specs.Run.{Entry, PieceContext, GoesTo, EndsWith, goes, goes_with, on_top, pushes, done_by, calls}
 use Rattle.snl_meaning.specs.Words.{adjusted, cleared, element_place, fitted, gives, natural, operated, operated_prefix, printed, put_element, read, settled, spent, subscript, waited}
 use Rattle.snl_meaning.specs.World.{World}
 use Rattle.snl_alike.proofs.Linked.{agrees-printed, agrees-asked, agrees-ask_element}
-use Rattle.snl_flows.specs.Fine.{AreRead, Begins, IsAnyElement, IsFineAt, IsFirstSame, LeadsTo, MayBecomeOther, MayOverflow, PrefixMayOverflow, settled_of}
+use Rattle.snl_flows.specs.Fine.{AreRead, Begins, IsAnyElement, IsFineAt, IsFirstSame, IsPrinted, LeadsTo, MayBecomeOther, MayOverflow, PrefixMayOverflow, settled_of}
 use Rattle.snl_flows.specs.LeftOut.{IsLeftOut}
 use Rattle.snl_flows.specs.Tables.{Operand, Another, Same, Within, IsSameIn, top_of, below, Flow, Ground, HasLinks}
-use Rattle.snl_flows.specs.Texts.{SameButValues}
+use Rattle.snl_flows.specs.Texts.{IsNamed, SameButValues}
 use Rattle.snl_flows.proofs.Kept.{settled-to, waited-to, SameKept}
-use Rattle.snl_flows.proofs.Operands.{HoldsOf, HoldOf, all-same, can-be, same-of}
+use Rattle.snl_flows.proofs.Operands.{HoldsOf, HoldOf, all-same, can-be, first-same, same-of}
 use Rattle.snl_flows.proofs.Operators.{operated-other, outcome-to, prefix-other}
-use Rattle.snl_flows.proofs.Outcomes.{AlikeTo, lead, stop, test-to, then-to}
+use Rattle.snl_flows.proofs.Outcomes.{AlikeTo, BothLead, lead, stop, test-to, then-to}
 use Rattle.snl_flows.proofs.Puts.{put-to, spent-to}
-use Rattle.snl_flows.proofs.Steps.{K, ops, At, Next, Holds, AreBack, BothEnd, BothLeave, led, led-after, on, pushed, topped, two-topped, twice, free, known, apart, stores, assigns, stores-at, checked, jumped, taken, returned, called-on}
+use Rattle.snl_flows.proofs.Steps.{K, ops, At, Next, Holds, AreBack, IsOfGround, BothEnd, BothLeave, led, led-after, on, pushed, topped, two-topped, twice, free, known, apart, stores, assigns, stores-at, checked, jumped, taken, returned, called-on}
+use Rattle.snl_flows.proofs.Texts.{one-print}
 use Rattle.snl_flows.proofs.Variables.{With, adjusted-to-other, adjusted-to-same, cleared-to, read-other, read-to}
 use Rattle.snl_flows.proofs.Worlds.{SameOn, same-outside}
 
@@ -193,6 +195,22 @@ module _ (g : Ground) (f : Flow) (c : PieceContext) where
       (twice g f c (Holds g f c at Same) (put_element async c.set v) x y w u (same-of (top_of (ops g f c at)) x y fine.0 top)
       (put-to g c.set (K g f c at) f at (known g f c at) async (element_place v (natural x)) w u links (fine.1 (natural x) (can-be (top_of (ops g f c at)) x y fine.0 top)) e)))
 
+  -- ---- prints
+
+  -- a line that both print, of numbers that are the same, or by a string whose lines may have others
+  prints : (at format n : ℕ) (s t : List ℤ) (w u : World) → g.formats ≡ c.formats → IsPrinted g c.set f at format n → HoldOf (ops g f c at) s t → At g f c at w u →
+      AlikeTo g (Holds g f c at Same) (printed c.name (format_text c.formats format) (take n s) w) (printed c.name (format_text c.formats format) (take n t) u)
+  prints at format n s t w u same fine h e =
+      ⊎_elim
+      (λ first. subst (λ (zs : List ℤ). AlikeTo g (Holds g f c at Same) (printed c.name text (take n s) w) (printed c.name text zs u)) (first-same n s t (ops g f c at) first h)
+      (free g f c at (printed c.name text (take n s)) (λ keep. agrees-printed (IsLeftOut g.lines) c.set (At g f c at) (SameButValues g.names) keep c.name text (take n s)) w u e))
+      (λ named. BothLead (pos 0) (pos 0) w u _ _ (refl, e)
+      (subst (λ (ms : ℕ). SameButValues g.names (printed_line w.time c.name text (reverse (take n s))) (printed_line ms c.name text (reverse (take n t)))) (ap (λ (v : World). v.time) e.same)
+      (one-print g.names w.time c.name text (reverse (take n s)) (reverse (take n t)) (subst (λ (fs : List (List ℕ)). IsNamed g.names (format_text fs format)) same named)))) fine
+    where
+      text : List ℕ
+      text = format_text c.formats format
+
   -- ---- all of them
 
   -- no step more
@@ -202,15 +220,15 @@ module _ (g : Ground) (f : Flow) (c : PieceContext) where
       (lead g (Next g f c) _ _ w u (BothEnd s w u (same-outside g.hidden c.set (K g f c at) w u e)))
 
   -- a call
-  calls-on : (at function n line : ℕ) (s t : List ℤ) (w u : World) → AreBack f c.returns → g.functions ≡ c.functions → Does (Call function n line) at s t w u
+  calls-on : (at function n line : ℕ) (s t : List ℤ) (w u : World) → AreBack f c.returns → IsOfGround g c → Does (Call function n line) at s t w u
   calls-on at function n line s t w u backs same fine h e =
       subst (λ (x : List ℤ). AlikeTo g (Next g f c) (calls c (slice_get c.functions function) n line at s w) (calls c (slice_get c.functions function) n line at x u))
       (all-same s t (ops g f c at) fine.0 h)
       (called-on g f c (slice_get c.functions function) n line at s w u backs
-      (subst (λ (fs : List Entry). Begins g c.set f (slice_get fs function) n) same fine.1) fine.2 e)
+      (subst (λ (fs : List Entry). Begins g c.set f (slice_get fs function) n) same.functions fine.1) fine.2 e)
 
   -- each
-  pub done-alike : (i : Instr) (at : ℕ) (s t : List ℤ) (w u : World) → HasLinks g w → AreBack f c.returns → g.functions ≡ c.functions → Does i at s t w u
+  pub done-alike : (i : Instr) (at : ℕ) (s t : List ℤ) (w u : World) → HasLinks g w → AreBack f c.returns → IsOfGround g c → Does i at s t w u
   done-alike (Push z) at s t w u links backs same = λ fine h e. pushed g f c at Same (ops g f c at) s t w u (gives z w) (gives z u) fine h e (lead g (Holds g f c at Same) z z w u (refl, e))
   done-alike (Load v) at s t w u links backs same = loads at v s t w u
   done-alike (Check v line) at s t w u links backs same = λ fine h e. same-word at (Within v.size) (subscript v line) s t w u fine.0 fine.1 (λ x. checked g f c at v line x w u e) h e
@@ -258,9 +276,7 @@ module _ (g : Ground) (f : Flow) (c : PieceContext) where
       then-to g {A = Unit {0}} (SameKept g c.set (K g f c at)) (Next g f c) (spent line w) (spent line u) (goes (at - back) s) (goes (at - back) t) (spent-to g c.set (K g f c at) line w u e)
       (λ _ _ p q more. led g f c at (at - back) (ops g f c at) s t p q fine h more.1)
   done-alike (Print format n) at s t w u links backs same = λ fine h e.
-      taken g f c at n s t (printed c.name (format_text c.formats format)) w u fine.0 fine.1 h e
-      (λ zs. free g f c at (printed c.name (format_text c.formats format) zs)
-      (λ keep. agrees-printed (IsLeftOut g.lines) c.set (At g f c at) (SameButValues g.names) keep c.name (format_text c.formats format) zs) w u e)
+      taken g f c at n s t (printed c.name (format_text c.formats format)) w u fine.1 h e (prints at format n s t w u same.formats fine.0 h e)
   done-alike (Wait in_seconds) at s t w u links backs same = λ fine h e.
       same-word at Same (waited c.set in_seconds) s t w u fine.0 fine.1 (λ x. waited-to g c.set (K g f c at) in_seconds x w u e) h e
   done-alike (Put v async) at s t w u links backs same = puts at v async s t w u links

@@ -1,11 +1,11 @@
--- With no line nothing is left out, and with no channel texts are the same.
+-- With no line nothing is left out, and with no name texts are the same.
 use Rattle.std.proofs.Common.{◌≡◌, refl, ap, ℕ, true, List, [], ◌++◌}
 use Rattle.snl_meaning.specs.declared.faults.Fault.{Fault}
 use Rattle.snl_meaning.specs.declared.faults.Fault.TheVariants.{Overflow, DivisionByZero, OutOfRange, DoesNotFit, BadShift, BudgetSpent}
 use Rattle.snl_flows.specs.Flows.{NothingIsLeftOut}
 use Rattle.snl_flows.specs.LeftOut.{IsLeftOut}
 use Rattle.snl_flows.specs.Outside.{has}
-use Rattle.snl_flows.specs.Texts.{SameButValues, NoLines, SameLine, OtherValues}
+use Rattle.snl_flows.specs.Texts.{SameButValues, NoLines, SameLine, OtherValues, OtherNumbers}
 
 -- no line is one of none
 none-has : (line : ℕ) → has [] line ≡ true → ⊥
@@ -25,6 +25,7 @@ no-values : (a b : List ℕ) → SameButValues [] a b → a ≡ b
 no-values _ _ NoLines = refl
 no-values _ _ (SameLine line a b ends h) = ap (λ (x : List ℕ). line ++ x) (no-values a b h)
 no-values _ _ (OtherValues ms channel xs ys a b named h) = absurd named
+no-values _ _ (OtherNumbers ms set format xs ys a b named h) = absurd named
 
 -- both
 pub nothing_is_left_out : NothingIsLeftOut

@@ -1,6 +1,7 @@
 -- Where tables are right of the code of a program, each of its pieces comes out alike from worlds that are the same outside.
 use Rattle.std.proofs.Common.{◌≡◌, ◌∙◌, refl, ap, subst, arith, ℕ, ℤ, Bool, true, false, List, [], ◌∷◌, ◌++◌, Option, None, Some, if◌then◌else◌}
 use Rattle.std.proofs.lemmas.List.{append-nil}
+use Rattle.std.specs.List.{flat_map}
 use Rattle.snl_arithmetic.specs.Arithmetic.{is_zero}
 use Rattle.snl_channels.specs.Links.{Link}
 use Rattle.snl_emit.specs.Right.{ends_with, leads_to}
@@ -8,18 +9,20 @@ use Rattle.snl_emit.specs.Depths.{block_depth, expression_depth}
 use Rattle.snl_flat.specs.declared.code.Code.{Code}
 use Rattle.snl_flat.specs.declared.starts.Piece.{Piece}
 use Rattle.snl_flat.specs.Heres.{outlines_in, routines_in, scene_in}
-use Rattle.snl_flat.specs.Pieces.{IsPieceAt, IsPlaced, PieceTree, Test, Action, is_kept, kept_piece, piece_of}
+use Rattle.snl_flat.specs.Pieces.{IsPieceAt, IsPlaced, PieceTree, Test, Action, is_kept, kept_piece, piece_of, texts_of}
 use Rattle.snl_flat.specs.Reached.{Table}
 use Rattle.snl_flat.specs.Starts.{entries_of, holds_in, start_in, table_of}
 use Rattle.snl_load.specs.Meaning.{state_left_for}
 use Rattle.snl_meaning.specs.Effect.{Way, Done, Broken, Continued, Left, Returned, block_effect, holds}
 use Rattle.snl_meaning.specs.Frames.{Frame, frame_of}
 use Rattle.snl_meaning.specs.Keeping.{world_after}
+use Rattle.snl_meaning.specs.Names.{format_at}
 use Rattle.snl_meaning.specs.Ran.{Ran, Gives, Faults, also, then_do}
 use Rattle.snl_meaning.specs.Run.{Exit, Over, LeftFor, Unfinished, Stuck, context_of, run_of}
 use Rattle.snl_meaning.specs.Value.{value_of}
 use Rattle.snl_meaning.specs.World.{World}
 use Rattle.snl_meaning.proofs.Frames.{pieces_keep_the_frame}
+use Rattle.snl_names.specs.Programs.{sites}
 use Rattle.snl_syntax.specs.Expressions.{ExprTree}
 use Rattle.snl_syntax.specs.Programs.{ProgramTree}
 use Rattle.snl_syntax.specs.Statements.{BlockTree}
@@ -127,7 +130,8 @@ state-left-after (Returned z) w = refl
 
 -- ---- pieces
 
-module _ (p : ProgramTree) (ls : List Link) (c : Code) (hidden : List (List ℕ)) (lines : List ℕ) (names : List (List ℕ)) (flows : List Flow) where
+module _ (p : ProgramTree) (ls : List Link) (c : Code) (hidden : List (List ℕ)) (lines : List ℕ) (names : List (List ℕ)) (flows : List Flow)
+    (texts : texts_of c ≡ flat_map format_at (sites p)) where
   -- what holds for all state sets
   abbrev ground : Ground
   ground = ground_of p ls c hidden lines names
@@ -138,7 +142,7 @@ module _ (p : ProgramTree) (ls : List Link) (c : Code) (hidden : List (List ℕ)
       AlikeTo ground (Ends ground) (run_of (context_of (scene_in p set) (entries_of c) room) c.instrs.items start w)
       (run_of (context_of (scene_in p set) (entries_of c) room) c.instrs.items start u)
   run-of-piece set room start fine empty w u links e =
-      run-alike ground (flow_of flows set) set c.instrs.items fine (context_of (scene_in p set) (entries_of c) room) refl refl refl start empty w u links e
+      run-alike ground (flow_of flows set) set c.instrs.items fine (context_of (scene_in p set) (entries_of c) room) refl (record { functions = refl; formats = texts }) refl start empty w u links e
 
   -- a condition whose code stands at an address
   test-flows : (set : ℕ) (x : ExprTree) (start : ℕ) → AreFine ground set (flow_of flows set) c.instrs.items → facts_at (flow_of flows set) start ≡ first_facts →
@@ -201,4 +205,4 @@ module _ (p : ProgramTree) (ls : List Link) (c : Code) (hidden : List (List ℕ)
 
 -- the law
 pub pieces_flow : PiecesFlow
-pieces_flow p ls c hidden lines names flows right name piece is = each-flows p ls c hidden lines names flows right name piece is
+pieces_flow p ls c hidden lines names flows right name piece is = each-flows p ls c hidden lines names flows right.code.texts right name piece is

@@ -13,7 +13,7 @@ use Rattle.snl_flows.specs.Tables.{Facts, Flow, Ground, HasLinks, IsReached, fac
 use Rattle.snl_flows.proofs.Instructions.{done-alike}
 use Rattle.snl_flows.proofs.Operands.{HoldOf}
 use Rattle.snl_flows.proofs.Outcomes.{AlikeTo, lead, left-to, then-to}
-use Rattle.snl_flows.proofs.Steps.{After, AreBack, BothEnd, BothGo, BothGoOver, BothLeave, BothStick, Here}
+use Rattle.snl_flows.proofs.Steps.{After, AreBack, BothEnd, BothGo, BothGoOver, BothLeave, BothStick, Here, IsOfGround}
 use Rattle.snl_flows.proofs.Worlds.{SameOn, same-nowhere, same-outside}
 
 -- Two runs come to the same exit, and their worlds are the same outside.
@@ -30,7 +30,7 @@ module _ (g : Ground) (f : Flow) (set : ℕ) (code : List Instr) (fine : AreFine
   }
 
   -- an instruction, if there is one
-  step-alike : (c : PieceContext) → c.set ≡ set → g.functions ≡ c.functions → AreBack f c.returns → (o : Option Instr) (at : ℕ) → slice_get code at ≡ o → (s t : List ℤ) (w u : World) →
+  step-alike : (c : PieceContext) → c.set ≡ set → IsOfGround g c → AreBack f c.returns → (o : Option Instr) (at : ℕ) → slice_get code at ≡ o → (s t : List ℤ) (w u : World) →
       HasLinks g w →
       IsReached f at → HoldOf (facts_at f at).operands s t → SameOn g.hidden set (Here f (at ∷ c.returns)) w u →
       AlikeTo g (λ x y v z. After g set f c.returns x y v z × HasLinks g v) (step_of c o at s w) (step_of c o at t u)
@@ -44,7 +44,7 @@ module _ (g : Ground) (f : Flow) (set : ℕ) (code : List Instr) (fine : AreFine
       (subst (λ (n : ℕ). IsFineAt g n f at i) (sym is) (fine at i found there)) h (subst (λ (n : ℕ). SameOn g.hidden n (Here f (at ∷ c.returns)) w u) (sym is) e)))
 
   -- so many instructions
-  pub exec-alike : (n : ℕ) (c : PieceContext) → c.set ≡ set → g.functions ≡ c.functions → AreBack f c.returns → (at : ℕ) (s t : List ℤ) (w u : World) → HasLinks g w →
+  pub exec-alike : (n : ℕ) (c : PieceContext) → c.set ≡ set → IsOfGround g c → AreBack f c.returns → (at : ℕ) (s t : List ℤ) (w u : World) → HasLinks g w →
       IsReached f at → HoldOf (facts_at f at).operands s t → SameOn g.hidden set (Here f (at ∷ c.returns)) w u → AlikeTo g (Ends g) (exec code n c at s w) (exec code n c at t u)
   exec-alike zero c is same backs at s t w u links there h e = lead g (Ends g) Unfinished Unfinished w u (refl, same-outside g.hidden set (Here f (at ∷ c.returns)) w u e)
   exec-alike (suc n) c is same backs at s t w u links there h e =
@@ -52,18 +52,19 @@ module _ (g : Ground) (f : Flow) (set : ℕ) (code : List Instr) (fine : AreFine
       (from_there c (exec code n)) (from_there c (exec code n)) (step-alike c is same backs (slice_get code at) at refl s t w u links there h e)
       (λ x y v z both. go (λ d i j b pc s t a b' l there hold on. exec-alike n d i j b pc s t a b' l there hold on) x y v z both.0 both.1)
     where
-      go : ((d : PieceContext) → d.set ≡ set → g.functions ≡ d.functions → AreBack f d.returns → (pc : ℕ) (s t : List ℤ) (a b : World) → HasLinks g a → IsReached f pc →
+      go : ((d : PieceContext) → d.set ≡ set → IsOfGround g d → AreBack f d.returns → (pc : ℕ) (s t : List ℤ) (a b : World) → HasLinks g a → IsReached f pc →
           HoldOf (facts_at f pc).operands s t →
           SameOn g.hidden set (Here f (pc ∷ d.returns)) a b → AlikeTo g (Ends g) (exec code n d pc s a) (exec code n d pc t b)) →
           (x y : Step) (a b : World) → After g set f c.returns x y a b → HasLinks g a → AlikeTo g (Ends g) (from_there c (exec code n) x a) (from_there c (exec code n) y b)
       go more _ _ _ _ (BothGo pc s t a b there hold on) l = more c is same backs pc s t a b l there hold on
-      go more _ _ _ _ (BothGoOver others pc s t a b back there hold on) l = more (with_returns c others) is same back pc s t a b l there hold on
+      go more _ _ _ _ (BothGoOver others pc s t a b back there hold on) l =
+          more (with_returns c others) is (record { functions = same.functions; formats = same.formats }) back pc s t a b l there hold on
       go more _ _ _ _ (BothEnd s a b outside) l = lead g (Ends g) (Over s) (Over s) a b (refl, outside)
       go more _ _ _ _ (BothLeave state a b outside) l = lead g (Ends g) (LeftFor state) (LeftFor state) a b (refl, outside)
       go more _ _ _ _ (BothStick a b outside) l = lead g (Ends g) Stuck Stuck a b (refl, outside)
 
   -- a piece, at whose first instruction nothing is said
-  pub run-alike : (c : PieceContext) → c.set ≡ set → g.functions ≡ c.functions → c.returns ≡ [] → (start : ℕ) → facts_at f start ≡ first_facts → (w u : World) → HasLinks g w →
+  pub run-alike : (c : PieceContext) → c.set ≡ set → IsOfGround g c → c.returns ≡ [] → (start : ℕ) → facts_at f start ≡ first_facts → (w u : World) → HasLinks g w →
       IsSameOutside g.hidden w u →
       AlikeTo g (Ends g) (run_of c code start w) (run_of c code start u)
   run-alike c is same none start empty w u links e =

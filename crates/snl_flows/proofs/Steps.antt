@@ -15,10 +15,10 @@ use Rattle.snl_alike.specs.TwoRuns.{Agrees, KeepsAlike}
 use Rattle.snl_flows.specs.Fine.{Begins, IsBound, IsElement, IsFineAt, LeadsAfter, LeadsTo, MayGetOther}
 use Rattle.snl_flows.specs.LeftOut.{IsLeftOut}
 use Rattle.snl_flows.specs.Outside.{has, places_of, IsSameOutside}
-use Rattle.snl_flows.specs.Tables.{Operand, Same, Within, IsSameIn, top_of, below, under, AreFirstSame, AreAllSame, AreNoMore, Flow, Ground, IsOpen, IsReached, IsSameAt, MayDiffer, facts_at, is_loose, said_at}
+use Rattle.snl_flows.specs.Tables.{Operand, Same, Within, IsSameIn, top_of, below, under, AreAllSame, AreNoMore, Flow, Ground, IsOpen, IsReached, IsSameAt, MayDiffer, facts_at, is_loose, said_at}
 use Rattle.snl_flows.specs.Texts.{SameButValues}
 use Rattle.snl_flows.proofs.Kept.{keeps-words, plain, SameKept}
-use Rattle.snl_flows.proofs.Operands.{HoldsOf, HoldOf, all-same, as-many, first-same, holds-of-same, no-more-of, same-of, under-of}
+use Rattle.snl_flows.proofs.Operands.{HoldsOf, HoldOf, all-same, as-many, holds-of-same, no-more-of, same-of, under-of}
 use Rattle.snl_flows.proofs.Outcomes.{AlikeTo, lead, less-to, stop, test-to, then-to}
 use Rattle.snl_flows.proofs.Puts.{Entered, called-to}
 use Rattle.snl_flows.proofs.Variables.{Grows, Stays, With, stored-other, stored-to}
@@ -32,6 +32,11 @@ IsSaidAt f (at ∷ more) b k = (has (said_at f at b) k ≡ true) ⊎ IsSaidAt f 
 -- And it is none that may get what is not the same.
 abbrev pub Here : Flow → List ℕ → Bool → ℕ → Type 0
 Here f ats b k = (is_loose f b k ≡ false) × IsSaidAt f ats b k
+
+-- What code runs with has the functions and the strings of the program.
+pub record IsOfGround (g : Ground) (c : PieceContext) : Type 0 where
+  pub functions : g.functions ≡ c.functions
+  pub formats : g.formats ≡ c.formats
 
 -- Nothing is said of the operands where calls go on but that they are the same.
 abbrev pub AreBack : Flow → List ℕ → Type 0
@@ -229,18 +234,15 @@ module _ (g : Ground) (f : Flow) (c : PieceContext) where
       by false = led at (at + 1) os s t w u next h e
 
   -- numbers in the place of others
-  pub taken : (at n : ℕ) (s t : List ℤ) (word : List ℤ → World → Ran ℤ) (w u : World) → AreFirstSame n (ops at) → LeadsTo g c.set f at (at + 1) (Same ∷ under n (ops at)) → HoldOf
-      (ops at) s t → At at w u →
-      ((zs : List ℤ) → AlikeTo g (Holds at Same) (word zs w) (word zs u)) → AlikeTo g Next (takes c n at s w word) (takes c n at t u word)
-  taken at n s t word w u first leads h e k =
+  pub taken : (at n : ℕ) (s t : List ℤ) (word : List ℤ → World → Ran ℤ) (w u : World) → LeadsTo g c.set f at (at + 1) (Same ∷ under n (ops at)) → HoldOf (ops at) s t → At at w u →
+      AlikeTo g (Holds at Same) (word (take n s) w) (word (take n t) u) → AlikeTo g Next (takes c n at s w word) (takes c n at t u word)
+  taken at n s t word w u leads h e both =
       subst (λ (m : ℕ). AlikeTo g Next (takes c n at s w word) (if nat_le n m then with_room c.room (drop n t) u
       (then_do (word (take n t) u) (goes_with (at + 1) (drop n t))) else Gives Sticks u []))
       (as-many s t (ops at) h)
       (test-to g Next (nat_le n (length s)) _ _ _ _
       (roomy at (under n (ops at)) (drop n s) (drop n t) w u _ _ rest e
-      (subst (λ (zs : List ℤ). AlikeTo g Next (then_do (word (take n s) w) (goes_with (at + 1) (drop n s))) (then_do (word zs u) (goes_with (at + 1) (drop n t))))
-      (first-same n s t (ops at) first h)
-      (on at (at + 1) Same (under n (ops at)) (drop n s) (drop n t) (word (take n s) w) (word (take n s) u) leads rest (k (take n s))))) (stuck at w u e))
+      (on at (at + 1) Same (under n (ops at)) (drop n s) (drop n t) (word (take n s) w) (word (take n t) u) leads rest both)) (stuck at w u e))
     where
       rest : HoldOf (under n (ops at)) (drop n s) (drop n t)
       rest = under-of n s t (ops at) h

@@ -1,10 +1,10 @@
--- Texts that are the same but for values of puts, one after another.
+-- Texts that are the same but for values of puts and prints, one after another.
 use Rattle.std.proofs.Common.{sym, subst, ℕ, ℤ, List, [], ◌∷◌, ◌++◌, append_assoc}
 use Rattle.std.proofs.lemmas.List.{append-nil}
 use Rattle.std.specs.Prelude.{codes, decimal}
 use Rattle.snl_alike.specs.Lines.{EndsLine, Newline, Before}
-use Rattle.snl_meaning.specs.Printing.{print_line, put_line, spaced}
-use Rattle.snl_flows.specs.Texts.{IsNamed, SameButValues, NoLines, SameLine, OtherValues}
+use Rattle.snl_meaning.specs.Printing.{print_line, printed_line, put_line, spaced}
+use Rattle.snl_flows.specs.Texts.{IsNamed, SameButValues, NoLines, SameLine, OtherValues, OtherNumbers}
 
 module _ (names : List (List ℕ)) where
   -- one after the other
@@ -17,12 +17,17 @@ module _ (names : List (List ℕ)) where
       subst (λ (x : List ℕ). SameButValues names x ((put_line ms channel ys ++ b) ++ d)) (sym (append_assoc (put_line ms channel xs) a c))
       (subst (λ (y : List ℕ). SameButValues names (put_line ms channel xs ++ (a ++ c)) y) (sym (append_assoc (put_line ms channel ys) b d))
       (OtherValues ms channel xs ys (a ++ c) (b ++ d) named (texts-joined a b c d h k)))
+  texts-joined _ _ c d (OtherNumbers ms set format xs ys a b named h) k =
+      subst (λ (x : List ℕ). SameButValues names x ((printed_line ms set format ys ++ b) ++ d)) (sym (append_assoc (printed_line ms set format xs) a c))
+      (subst (λ (y : List ℕ). SameButValues names (printed_line ms set format xs ++ (a ++ c)) y) (sym (append_assoc (printed_line ms set format ys) b d))
+      (OtherNumbers ms set format xs ys (a ++ c) (b ++ d) named (texts-joined a b c d h k)))
 
   -- the other way round
   pub texts-back : (a b : List ℕ) → SameButValues names a b → SameButValues names b a
   texts-back _ _ NoLines = NoLines
   texts-back _ _ (SameLine line a b ends h) = SameLine line b a ends (texts-back a b h)
   texts-back _ _ (OtherValues ms channel xs ys a b named h) = OtherValues ms channel ys xs b a named (texts-back a b h)
+  texts-back _ _ (OtherNumbers ms set format xs ys a b named h) = OtherNumbers ms set format ys xs b a named (texts-back a b h)
 
   -- one line that is the same
   pub one-line : (line : List ℕ) → EndsLine line → SameButValues names line line
@@ -33,6 +38,13 @@ module _ (names : List (List ℕ)) where
   one-put ms channel xs ys named =
       subst (λ (x : List ℕ). SameButValues names x (put_line ms channel ys)) (append-nil (put_line ms channel xs))
       (subst (λ (y : List ℕ). SameButValues names (put_line ms channel xs ++ []) y) (append-nil (put_line ms channel ys)) (OtherValues ms channel xs ys [] [] named NoLines))
+
+  -- one of a print
+  pub one-print : (ms : ℕ) (set format : List ℕ) (xs ys : List ℤ) → IsNamed names format → SameButValues names (printed_line ms set format xs) (printed_line ms set format ys)
+  one-print ms set format xs ys named =
+      subst (λ (x : List ℕ). SameButValues names x (printed_line ms set format ys)) (append-nil (printed_line ms set format xs))
+      (subst (λ (y : List ℕ). SameButValues names (printed_line ms set format xs ++ []) y) (append-nil (printed_line ms set format ys))
+      (OtherNumbers ms set format xs ys [] [] named NoLines))
 
 -- what ends a line ends it behind more
 pub ends-behind : (xs ys : List ℕ) → EndsLine ys → EndsLine (xs ++ ys)

@@ -7,6 +7,7 @@ use Rattle.snl_meaning.specs.declared.instrs.Instr.TheVariants.{Push, Load, Chec
 use Rattle.snl_meaning.specs.declared.instrs.Variable.{Variable}
 use Rattle.snl_meaning.specs.declared.ties.Tied.{Tied}
 use Rattle.snl_meaning.specs.Links.{link_from}
+use Rattle.snl_meaning.specs.Names.{format_text}
 use Rattle.snl_meaning.specs.Run.{Entry}
 use Rattle.snl_meaning.specs.Words.{element_place}
 use Rattle.snl_flows.specs.Fine.{AreFine, settled_of}
@@ -172,6 +173,12 @@ module _ (g : Ground) (set : ℕ) (f : Flow) where
   are_put_by at v (Within size) = are_put at v 0 size
   are_put_by at v _ = false
 
+  -- ---- prints
+
+  -- Whether so many topmost operands are the same, or a string is one of a `printf` that may have other values.
+  abbrev pub is_printed : (at format n : ℕ) → Bool
+  is_printed at format n = are_first_same n (known_at at) || is_named g.names (format_text g.formats format)
+
   -- ---- calls
 
   -- Whether a word is that of one of the first parameters,
@@ -224,7 +231,7 @@ module _ (g : Ground) (set : ℕ) (f : Flow) where
   is_fine_at at (Jump n) = leads at (at + 1 + n) (known_at at)
   is_fine_at at (JumpIfZero n) = is_same_in (top_of (known_at at)) && leads at (at + 1) (below (known_at at)) && leads at (at + 1 + n) (below (known_at at))
   is_fine_at at (Tick line back) = leads at (at - back) (known_at at)
-  is_fine_at at (Print format n) = are_first_same n (known_at at) && leads at (at + 1) (Same ∷ under n (known_at at))
+  is_fine_at at (Print format n) = is_printed at format n && leads at (at + 1) (Same ∷ under n (known_at at))
   is_fine_at at (Wait in_seconds) = is_same_in (top_of (known_at at)) && leads at (at + 1) (Same ∷ below (known_at at))
   is_fine_at at (Put v is_async) = is_put at v.place && leads at (at + 1) (Same ∷ known_at at)
   is_fine_at at (PutAt v is_async) = are_put_by at v (top_of (known_at at)) && leads at (at + 1) (Same ∷ below (known_at at))

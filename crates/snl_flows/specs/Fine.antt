@@ -7,6 +7,7 @@ use Rattle.snl_meaning.specs.declared.instrs.Instr.TheVariants.{Push, Load, Chec
 use Rattle.snl_meaning.specs.declared.instrs.Variable.{Variable}
 use Rattle.snl_meaning.specs.declared.ties.Tied.{Tied}
 use Rattle.snl_meaning.specs.Links.{link_from}
+use Rattle.snl_meaning.specs.Names.{format_text}
 use Rattle.snl_meaning.specs.Run.{Entry}
 use Rattle.snl_meaning.specs.Words.{element_place}
 use Rattle.snl_flows.specs.Outside.{has, places_of}
@@ -107,6 +108,12 @@ module _ (g : Ground) (set : ℕ) (f : Flow) where
   abbrev pub IsPut : (at place : ℕ) → Type 0
   IsPut at place = (link : ℕ) (t : Tied) → link_from 0 (slice_index_or g.homes set []) place ≡ Some link → slice_get g.ties link ≡ Some t → IsPutBy at place t.count t.channel
 
+  -- ---- prints
+
+  -- So many topmost operands are the same, or a string is one of a `printf` that may have other values.
+  abbrev pub IsPrinted : (at format n : ℕ) → Type 0
+  IsPrinted at format n = AreFirstSame n (operands_at at) ⊎ IsNamed g.names (format_text g.formats format)
+
   -- ---- calls
 
   -- A function begins with its parameters alone, and with operands that are the same.
@@ -146,7 +153,7 @@ module _ (g : Ground) (set : ℕ) (f : Flow) where
   IsFineAt at (JumpIfZero n) =
       IsSameIn (top_of (operands_at at)) × LeadsTo at (at + 1) (below (operands_at at)) × LeadsTo at (at + 1 + n) (below (operands_at at))
   IsFineAt at (Tick line back) = LeadsTo at (at - back) (operands_at at)
-  IsFineAt at (Print format n) = AreFirstSame n (operands_at at) × LeadsTo at (at + 1) (Same ∷ under n (operands_at at))
+  IsFineAt at (Print format n) = IsPrinted at format n × LeadsTo at (at + 1) (Same ∷ under n (operands_at at))
   IsFineAt at (Wait in_seconds) = IsSameIn (top_of (operands_at at)) × LeadsTo at (at + 1) (Same ∷ below (operands_at at))
   IsFineAt at (Put v is_async) = IsPut at v.place × LeadsTo at (at + 1) (Same ∷ operands_at at)
   IsFineAt at (PutAt v is_async) =

@@ -4,7 +4,7 @@ use Rattle.snl_channels.specs.Links.{Link}
 use Rattle.snl_flat.specs.declared.code.Code.{Code}
 use Rattle.snl_flat.specs.declared.starts.Piece.{Piece}
 use Rattle.snl_flat.specs.Heres.{scene_in}
-use Rattle.snl_flat.specs.Pieces.{IsCodeOf, PieceTree, Test, Action, kept_piece, piece_of}
+use Rattle.snl_flat.specs.Pieces.{IsCodeOf, PieceTree, Test, Action, kept_piece, piece_of, texts_of}
 use Rattle.snl_flat.specs.Starts.{entries_of, holds_in, start_in, table_of}
 use Rattle.snl_load.specs.Meaning.{program_meaning, state_left_for}
 use Rattle.snl_load.specs.Places.{channels, homes_in, placed_sets, ties_in}
@@ -23,8 +23,8 @@ use Rattle.snl_flows.specs.Outside.{IsSameOutside}
 use Rattle.snl_flows.specs.Tables.{Flow, Ground, HasLinks, facts_at, first_facts, no_flow}
 use Rattle.snl_flows.specs.Texts.{SameButValues}
 
--- What holds for all state sets of a program with some links and its functions, where these places are hidden, overflows of these lines are
--- left out, and puts to these channels may have other values.
+-- What holds for all state sets of a program with some links, its functions and its strings, where these places are hidden, overflows of
+-- these lines are left out, and puts to these channels and `printf`s of these strings may have other values.
 abbrev pub ground_of : ProgramTree → List Link → Code → (hidden : List (List ℕ)) → (lines : List ℕ) → (names : List (List ℕ)) → Ground
 ground_of p ls c hidden lines names = record {
   hidden = hidden;
@@ -34,6 +34,7 @@ ground_of p ls c hidden lines names = record {
   ties = ties_in p ls;
   homes = homes_in (placed_sets p 0 p.state_sets) ls;
   functions = entries_of c;
+  formats = texts_of c;
 }
 
 -- The table of a state set.
@@ -80,7 +81,7 @@ LinesFlow = (p : ProgramTree) (ls : List Link) (c : Code) (hidden : List (List �
     Alike (IsLeftOut lines) (IsSameOutside hidden) (SameButValues names) (line_of (program_meaning p ls waits) budget ms event w)
     (line_of (program_meaning p ls waits) budget ms event u)
 
--- With no line nothing is left out, and with no channel texts are the same.
+-- With no line nothing is left out, and with no name texts are the same.
 pub record NothingIsLeftOut : Type 0 where
   pub faults : (fault : Fault) (line : ℕ) → IsLeftOut [] fault line → ⊥
   pub texts : (a b : List ℕ) → SameButValues [] a b → a ≡ b

@@ -93,8 +93,8 @@ abbrev pub no_flow : Flow
 no_flow = record { rows = []; loose = []; loose_words = [] }
 
 -- What holds for all state sets: by state set the hidden places of its copy; the lines of which overflows, and values that do not fit, are
--- left out; the channels whose puts may have other values; what a program's channels are named, what its links are tied to, and where they
--- stand in each copy; and its functions.
+-- left out; the channels whose puts may have other values, and the strings of the `printf`s that may; what a program's channels are named,
+-- what its links are tied to, and where they stand in each copy; its functions; and the strings of all its `printf`s.
 pub record Ground : Type 0 where
   pub hidden : List (List ℕ)
   pub lines : List ℕ
@@ -103,6 +103,7 @@ pub record Ground : Type 0 where
   pub ties : List Tied
   pub homes : List (List (Option ℕ))
   pub functions : List Entry
+  pub formats : List (List ℕ)
 
 -- A world has these channels and these links.
 pub record HasLinks (g : Ground) (w : World) : Type 0 where

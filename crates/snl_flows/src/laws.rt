@@ -14,7 +14,7 @@ pub fn lines_flow()
     ensures { LinesFlow }
 {}
 
-/// With no line nothing is left out, and with no channel texts are the same.
+/// With no line nothing is left out, and with no name texts are the same.
 #[tactic(auto, using(crate::proofs::Nothing::nothing_is_left_out))]
 pub fn nothing_is_left_out()
     ensures { NothingIsLeftOut }
