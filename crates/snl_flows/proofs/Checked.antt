@@ -1,4 +1,4 @@
--- Where the check of code says so, its table is right.
+-- Where the check of an instruction says so, its table is right of it.
 use Rattle.std.proofs.Common.{◌≡◌, ◌⊎◌, ◌+◌, ◌-◌, ◌<◌, inl, inr, ⊎_elim, refl, subst, arith, ℕ, zero, suc, Bool, true, false, List, [], ◌∷◌, Option, None, Some}
 use Rattle.std.specs.Prelude.{◌==◌, ◌&&◌, ◌||◌, not, slice_get, slice_index_or}
 use Rattle.std.proofs.lemmas.Bool.{and_parts, or_cases, eqb-true, false≢true}
@@ -10,10 +10,10 @@ use Rattle.snl_meaning.specs.Names.{format_text}
 use Rattle.snl_meaning.specs.Run.{Entry}
 use Rattle.snl_meaning.specs.Words.{element_place}
 use Rattle.snl_text.specs.declared.kinds.Kind.{Kind}
-use Rattle.snl_flows.specs.Checks.{ChecksAreRight, are_all_same, are_bound, are_fine, are_first_same, are_no_more, are_put, are_put_by, are_same_at, begins, is_bound, is_fine_at, is_named, is_printed, is_put, is_put_at, is_put_by, is_put_of, is_read, is_same_at, is_same_in, known_at, leads, leads_after, may_get_other, may_overflow, prefix_may_overflow}
-use Rattle.snl_flows.specs.Fine.{AreFine, Begins, IsAnyElement, IsBound, IsFineAt, IsPrinted, IsPut, IsPutBy, LeadsTo, MayBecomeOther, settled_of}
+use Rattle.snl_flows.specs.Checks.{are_all_same, are_bound, are_first_same, are_no_more, are_put, are_put_by, are_same_at, begins, is_bound, is_fine_at, is_named, is_printed, is_put, is_put_at, is_put_by, is_put_of, is_read, is_same_at, is_same_in, known_at, leads, leads_after, may_get_other, may_overflow, prefix_may_overflow}
+use Rattle.snl_flows.specs.Fine.{Begins, IsAnyElement, IsBound, IsFineAt, IsPrinted, IsPut, IsPutBy, LeadsTo, MayBecomeOther, settled_of}
 use Rattle.snl_flows.specs.Outside.{has}
-use Rattle.snl_flows.specs.Tables.{Operand, Another, Same, Within, CanBe, IsSameIn, top_of, below, under, Flow, Ground, IsReached, facts_at, said_at}
+use Rattle.snl_flows.specs.Tables.{Operand, Another, Same, Within, CanBe, IsSameIn, top_of, below, under, Flow, Ground, facts_at, said_at}
 use Rattle.snl_flows.proofs.Checks.{all-no-more, all-same, first-same, first-same-at, gets-other, leads-more, leads-one, leads-to, named-by, overflows, prefix-overflows, read-by, same-in, words-behind, words-same}
 
 module _ (g : Ground) (set : ℕ) (f : Flow) where
@@ -138,7 +138,7 @@ module _ (g : Ground) (set : ℕ) (f : Flow) where
     either a b p q said = ⊎_elim (λ (one : a ≡ true). inl (p one)) (λ (two : b ≡ true). inr (q two)) (or_cases a b said)
 
     -- each
-    fine-at : (i : Instr) → is_fine_at g set f at i ≡ true → IsFineAt g set f at i
+    pub fine-at : (i : Instr) → is_fine_at g set f at i ≡ true → IsFineAt g set f at i
     fine-at (Push z) said = leads-to g set f at (at + 1) (Same ∷ os) said
     fine-at (Load v) said =
         either (is_same_at g set f at v.is_shared v.place && leads g set f at (at + 1) (Same ∷ os)) (leads g set f at (at + 1) (Another ∷ os))
@@ -212,38 +212,3 @@ module _ (g : Ground) (set : ℕ) (f : Flow) where
     fine-at Return said = all-same os said
     fine-at (Leave state) said = tt
     fine-at End said = all-same os said
-
-  -- code, from an address on
-  fine-from : (code : List Instr) (at : ℕ) → are_fine g set f at code ≡ true → (k : ℕ) (i : Instr) → slice_get code k ≡ Some i → IsReached f (at + k) → IsFineAt g set f (at + k) i
-  fine-from [] at said k i found there = absurd (cc)
-  fine-from (j ∷ js) at said zero i found there =
-      subst (IsFineAt g set f (at + 0)) (the-one j i found)
-      (subst (λ (n : ℕ). IsReached f n → IsFineAt g set f n j) (first at)
-      (λ reached. fine-at at j (so (facts_at f at).is_reached reached (and_parts (not (facts_at f at).is_reached || is_fine_at g set f at j) (are_fine g set f (at + 1) js) said).0)) there)
-    where
-      first : (n : ℕ) → n ≡ n + 0
-      first n = omega arith
-
-      so : (b : Bool) → b ≡ true → (not b || is_fine_at g set f at j) ≡ true → is_fine_at g set f at j ≡ true
-      so true reached done = done
-      so false reached done = absurd (false≢true reached)
-
-      the-one : (a b : Instr) → ◌≡◌ {A = Option Instr} (Some a) (Some b) → a ≡ b
-      the-one a b same = cc
-  fine-from (j ∷ js) at said (suc k) i found there =
-      subst (λ (n : ℕ). IsReached f n → IsFineAt g set f n i) (next at k)
-      (fine-from js (at + 1) (and_parts (not (facts_at f at).is_reached || is_fine_at g set f at j) (are_fine g set f (at + 1) js) said).1 k i found) there
-    where
-      next : (n k : ℕ) → n + 1 + k ≡ n + suc k
-      next n k = omega arith
-
-  -- all of it
-  pub fine_by : (code : List Instr) → are_fine g set f 0 code ≡ true → AreFine g set f code
-  fine_by code said at i found there = subst (λ (n : ℕ). IsReached f n → IsFineAt g set f n i) (from-none at) (fine-from code 0 said at i found) there
-    where
-      from-none : (k : ℕ) → 0 + k ≡ k
-      from-none k = omega arith
-
--- the law
-pub checks_are_right : ChecksAreRight
-checks_are_right g set f code said = fine_by g set f code said

@@ -1,18 +1,24 @@
 -- A counter, one that decides something, and a variable that is written before it is read.
-use Rattle.std.proofs.Common.{◌≡◌, ◌⊎◌, inl, inr, ⊎_elim, refl, sym, subst, ℕ, zero, suc, Bool, true, false, List, [], ◌∷◌, Option, Some}
+use Rattle.std.proofs.Common.{◌≡◌, ◌⊎◌, inl, inr, ⊎_elim, refl, sym, subst, arith, ℕ, zero, suc, Bool, true, false, List, [], ◌∷◌, Option, Some}
 use Rattle.std.specs.Prelude.{◌==◌, ◌||◌, pos}
 use Rattle.std.proofs.lemmas.Bool.{eqb-true}
 use Rattle.snl_text.specs.declared.kinds.Kind.TheVariants.{Plus}
 use Rattle.snl_meaning.specs.declared.instrs.Instr.{Instr}
 use Rattle.snl_meaning.specs.declared.instrs.Instr.TheVariants.{Push, Load, Store, Increment, Drop, JumpIfZero, Leave, End}
 use Rattle.snl_flows.specs.Examples.{FlowsExamples, begins_empty, counts, decides, hides, now_same, own, writes_first}
-use Rattle.snl_flows.specs.Fine.{AreFine, IsElement, IsFineAt, IsFirstSame, LeadsTo, MayBecomeOther}
+use Rattle.snl_flows.specs.Fine.{IsElement, IsFineAt, IsFirstSame, LeadsTo, MayBecomeOther}
 use Rattle.snl_flows.specs.Outside.{has}
+use Rattle.snl_flows.specs.Quiet.{AreFine, ArePassed, IsPassed}
 use Rattle.snl_flows.specs.Tables.{Operand, Another, Same, Within, AreNoMore, Facts, Flow, Ground, IsSameIn, MayDiffer, first_facts, said_at, top_of}
 
 -- an instruction that is known
-fine-by : (g : Ground) (f : Flow) (at : ℕ) (i j : Instr) → ◌≡◌ {A = Option Instr} (Some i) (Some j) → IsFineAt g 0 f at i → IsFineAt g 0 f at j
-fine-by g f at i j same fine = let is : i ≡ j = cc in subst (IsFineAt g 0 f at) is fine
+fine-by : (g : Ground) (f : Flow) (code : List Instr) (at : ℕ) (i j : Instr) → ◌≡◌ {A = Option Instr} (Some i) (Some j) → IsFineAt g 0 f at i →
+    IsFineAt g 0 f at j ⊎ IsPassed g 0 f code at j
+fine-by g f code at i j same fine = let is : i ≡ j = cc in inl (subst (IsFineAt g 0 f at) is fine)
+
+-- one that is no jump
+no-jump : {P Q : Type 0} → (Q → ⊥) → P ⊎ Q → P
+no-jump never either = ⊎_elim (λ p. p) (λ q. absurd (never q)) either
 
 -- nothing is said where nothing is said
 none-said : (k : ℕ) → has [] k ≡ true → ⊥
@@ -34,12 +40,12 @@ counting = begins_empty (first_facts ∷ []) (3 ∷ [])
 
 -- where overflows are left out
 counted-fine : AreFine (hides (12 ∷ [])) 0 counting counts
-counted-fine zero j at there = fine-by (hides (12 ∷ [])) counting 0 (Increment own Plus 12 12) j at (inr ((loose-word (first_facts ∷ []), refl), refl), (tt, refl, none))
+counted-fine zero j at there = fine-by (hides (12 ∷ [])) counting counts 0 (Increment own Plus 12 12) j at (inr ((loose-word (first_facts ∷ []), refl), refl), (tt, refl, none))
   where
     none : (b : Bool) (k : ℕ) → has (said_at counting 1 b) k ≡ true → has (said_at counting 0 b) k ≡ true
     none true k h = h
     none false k h = h
-counted-fine (suc zero) j at there = fine-by (hides (12 ∷ [])) counting 1 (Leave 1) j at tt
+counted-fine (suc zero) j at there = fine-by (hides (12 ∷ [])) counting counts 1 (Leave 1) j at tt
 counted-fine (suc (suc n)) j at there = absurd (cc)
 
 -- where its word is hidden, it is not the same at the first address
@@ -51,7 +57,7 @@ never-first lines rows loose same =
 uncounted-bad : (rows : List Facts) (loose : List ℕ) → AreFine (hides []) 0 (begins_empty rows loose) counts → ⊥
 uncounted-bad rows loose fine =
     ⊎_elim (λ same. never-first [] rows loose same) (λ (other : MayBecomeOther (hides []) 0 (begins_empty rows loose) own Plus 12 12). none-said 12 other.0.1)
-    (fine 0 (Increment own Plus 12 12) refl refl).0
+    (no-jump (λ passed. passed) (fine 0 (Increment own Plus 12 12) refl refl)).0
 
 -- ---- one that decides
 
@@ -66,7 +72,13 @@ another-not (Within n ∷ os) less same = less.0
 undecided-bad : (lines : List ℕ) (rows : List Facts) (loose : List ℕ) → AreFine (hides lines) 0 (begins_empty rows loose) decides → ⊥
 undecided-bad lines rows loose fine =
     ⊎_elim (λ (same : IsFirstSame (hides lines) 0 (begins_empty rows loose) 0 own × LeadsTo (hides lines) 0 (begins_empty rows loose) 0 1 (Same ∷ [])). never-first lines rows loose same.0)
-    (λ (other : LeadsTo (hides lines) 0 (begins_empty rows loose) 0 1 (Another ∷ [])). another-not _ other.0 (fine 1 (JumpIfZero 1) refl other.1).0) (fine 0 (Load own) refl refl)
+    (λ (other : LeadsTo (hides lines) 0 (begins_empty rows loose) 0 1 (Another ∷ [])).
+    ⊎_elim (λ jump. another-not _ other.0 jump.0) (λ (passed : ArePassed (hides lines) 0 (begins_empty rows loose) decides 1 1). leaves passed) (fine 1 (JumpIfZero 1) refl other.1))
+    (no-jump (λ passed. passed) (fine 0 (Load own) refl refl))
+  where
+    -- it leaves in one of the ways of its jump
+    leaves : ArePassed (hides lines) 0 (begins_empty rows loose) decides 1 1 → ⊥
+    leaves passed = let far = passed.far in passed.each 2 (Leave 1) (omega arith) (omega (arith, far)) refl
 
 -- ---- one that is written first
 
@@ -76,12 +88,12 @@ table = begins_empty (first_facts ∷ now_same ∷ now_same ∷ first_facts ∷ 
 
 -- at each address
 written-fine : AreFine (hides []) 0 table writes_first
-written-fine zero j at there = fine-by (hides []) table 0 (Push (pos 7)) j at ((tt, tt), refl, none)
+written-fine zero j at there = fine-by (hides []) table writes_first 0 (Push (pos 7)) j at ((tt, tt), refl, none)
   where
     none : (b : Bool) (k : ℕ) → has (said_at table 1 b) k ≡ true → has (said_at table 0 b) k ≡ true
     none true k h = h
     none false k h = h
-written-fine (suc zero) j at there = fine-by (hides []) table 1 (Store own 12) j at (inl (tt, (tt, refl, wrote)))
+written-fine (suc zero) j at there = fine-by (hides []) table writes_first 1 (Store own 12) j at (inl (tt, (tt, refl, wrote)))
   where
     three : (k : ℕ) → has (3 ∷ []) k ≡ true → k ≡ 3
     three k h = by (3 == k) refl h
@@ -93,17 +105,17 @@ written-fine (suc zero) j at there = fine-by (hides []) table 1 (Store own 12) j
     wrote : (b : Bool) (k : ℕ) → has (said_at table 2 b) k ≡ true → (has (said_at table 1 b) k ≡ true) ⊎ IsElement own 0 b k
     wrote true k h = inl h
     wrote false k h = inr (refl, three k h)
-written-fine (suc (suc zero)) j at there = fine-by (hides []) table 2 Drop j at (tt, refl, same)
+written-fine (suc (suc zero)) j at there = fine-by (hides []) table writes_first 2 Drop j at (tt, refl, same)
   where
     same : (b : Bool) (k : ℕ) → has (said_at table 3 b) k ≡ true → has (said_at table 2 b) k ≡ true
     same true k h = h
     same false k h = h
-written-fine (suc (suc (suc zero))) j at there = fine-by (hides []) table 3 (Load own) j at (inl (inr (refl, refl), ((tt, tt), refl, same)))
+written-fine (suc (suc (suc zero))) j at there = fine-by (hides []) table writes_first 3 (Load own) j at (inl (inr (refl, refl), ((tt, tt), refl, same)))
   where
     same : (b : Bool) (k : ℕ) → has (said_at table 4 b) k ≡ true → has (said_at table 3 b) k ≡ true
     same true k h = h
     same false k h = absurd (none-said k h)
-written-fine (suc (suc (suc (suc zero)))) j at there = fine-by (hides []) table 4 (JumpIfZero 1) j at (tt, (tt, refl, same), (tt, refl, over))
+written-fine (suc (suc (suc (suc zero)))) j at there = fine-by (hides []) table writes_first 4 (JumpIfZero 1) j at (tt, (tt, refl, same), (tt, refl, over))
   where
     same : (b : Bool) (k : ℕ) → has (said_at table 5 b) k ≡ true → has (said_at table 4 b) k ≡ true
     same true k h = h
@@ -112,8 +124,8 @@ written-fine (suc (suc (suc (suc zero)))) j at there = fine-by (hides []) table 
     over : (b : Bool) (k : ℕ) → has (said_at table 6 b) k ≡ true → has (said_at table 4 b) k ≡ true
     over true k h = h
     over false k h = h
-written-fine (suc (suc (suc (suc (suc zero))))) j at there = fine-by (hides []) table 5 (Leave 1) j at tt
-written-fine (suc (suc (suc (suc (suc (suc zero)))))) j at there = fine-by (hides []) table 6 End j at tt
+written-fine (suc (suc (suc (suc (suc zero))))) j at there = fine-by (hides []) table writes_first 5 (Leave 1) j at tt
+written-fine (suc (suc (suc (suc (suc (suc zero)))))) j at there = fine-by (hides []) table writes_first 6 End j at tt
 written-fine (suc (suc (suc (suc (suc (suc (suc n))))))) j at there = absurd (cc)
 
 -- all of them

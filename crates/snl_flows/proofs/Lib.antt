@@ -1,14 +1,17 @@
 pub mod Agree
 pub mod Worlds
+pub mod Joined
 pub mod Texts
 pub mod Outcomes
 pub mod Operands
 pub mod Operators
+pub mod Alone
 pub mod Variables
 pub mod Kept
 pub mod Puts
 pub mod Steps
 pub mod Instructions
+pub mod Quiet
 pub mod Runs
 pub mod Pieces
 pub mod Programs
@@ -16,4 +19,5 @@ pub mod Lines
 pub mod Nothing
 pub mod Checks
 pub mod Checked
+pub mod QuietChecked
 pub mod Examples

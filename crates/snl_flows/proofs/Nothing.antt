@@ -5,7 +5,7 @@ use Rattle.snl_meaning.specs.declared.faults.Fault.TheVariants.{Overflow, Divisi
 use Rattle.snl_flows.specs.Flows.{NothingIsLeftOut}
 use Rattle.snl_flows.specs.LeftOut.{IsLeftOut}
 use Rattle.snl_flows.specs.Outside.{has}
-use Rattle.snl_flows.specs.Texts.{SameButValues, NoLines, SameLine, OtherValues, OtherNumbers}
+use Rattle.snl_flows.specs.Texts.{SameButValues, NoLines, SameLine, OtherValues, OtherNumbers, FirstPrints, SecondPrints}
 
 -- no line is one of none
 none-has : (line : ℕ) → has [] line ≡ true → ⊥
@@ -26,6 +26,8 @@ no-values _ _ NoLines = refl
 no-values _ _ (SameLine line a b ends h) = ap (λ (x : List ℕ). line ++ x) (no-values a b h)
 no-values _ _ (OtherValues ms channel xs ys a b named h) = absurd named
 no-values _ _ (OtherNumbers ms set format xs ys a b named h) = absurd named
+no-values _ _ (FirstPrints ms set format xs a b inside named h) = absurd named
+no-values _ _ (SecondPrints ms set format ys a b inside named h) = absurd named
 
 -- both
 pub nothing_is_left_out : NothingIsLeftOut

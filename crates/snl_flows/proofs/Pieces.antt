@@ -1,14 +1,15 @@
 -- Where tables are right of the code of a program, each of its pieces comes out alike from worlds that are the same outside.
-use Rattle.std.proofs.Common.{◌≡◌, ◌∙◌, refl, ap, subst, arith, ℕ, ℤ, Bool, true, false, List, [], ◌∷◌, ◌++◌, Option, None, Some, if◌then◌else◌}
+use Rattle.std.proofs.Common.{◌≡◌, ◌∙◌, refl, sym, ap, subst, arith, ℕ, ℤ, Bool, true, false, List, [], ◌∷◌, ◌++◌, Option, None, Some, if◌then◌else◌}
 use Rattle.std.proofs.lemmas.List.{append-nil}
 use Rattle.std.specs.List.{flat_map}
+use Rattle.std.specs.Prelude.{slice_get}
 use Rattle.snl_arithmetic.specs.Arithmetic.{is_zero}
 use Rattle.snl_channels.specs.Links.{Link}
 use Rattle.snl_emit.specs.Right.{ends_with, leads_to}
 use Rattle.snl_emit.specs.Depths.{block_depth, expression_depth}
 use Rattle.snl_flat.specs.declared.code.Code.{Code}
 use Rattle.snl_flat.specs.declared.starts.Piece.{Piece}
-use Rattle.snl_flat.specs.Heres.{outlines_in, routines_in, scene_in}
+use Rattle.snl_flat.specs.Heres.{name_by, outlines_in, routines_in, scene_in}
 use Rattle.snl_flat.specs.Pieces.{IsPieceAt, IsPlaced, PieceTree, Test, Action, is_kept, kept_piece, piece_of, texts_of}
 use Rattle.snl_flat.specs.Reached.{Table}
 use Rattle.snl_flat.specs.Starts.{entries_of, holds_in, start_in, table_of}
@@ -27,13 +28,14 @@ use Rattle.snl_syntax.specs.Expressions.{ExprTree}
 use Rattle.snl_syntax.specs.Programs.{ProgramTree}
 use Rattle.snl_syntax.specs.Statements.{BlockTree}
 use Rattle.snl_alike.specs.TwoRuns.{Alike, BothGive, BothFault, FirstLeftOut, SecondLeftOut}
-use Rattle.snl_flows.specs.Fine.{AreFine}
+use Rattle.snl_flows.specs.Quiet.{AreFine}
 use Rattle.snl_flows.specs.Flows.{AreFlowsOf, IsAlike, PieceFlows, PiecesFlow, flow_of, ground_of, set_of}
 use Rattle.snl_flows.specs.LeftOut.{IsLeftOut}
 use Rattle.snl_flows.specs.Outside.{IsSameOutside}
 use Rattle.snl_flows.specs.Tables.{Flow, Ground, HasLinks, facts_at, first_facts}
-use Rattle.snl_flows.specs.Texts.{SameButValues}
+use Rattle.snl_flows.specs.Texts.{IsInLine, SameButValues}
 use Rattle.snl_flows.proofs.Outcomes.{AlikeTo, BothLead, BothStop, FirstStops, SecondStops, lead, then-to}
+use Rattle.snl_flows.proofs.Quiet.{IsOver}
 use Rattle.snl_flows.proofs.Runs.{Ends, run-alike}
 
 -- ---- what a run gives
@@ -50,6 +52,20 @@ held Stuck w = Gives false w []
 held-back : (r : Ran ℤ) → then_do (then_do r ends_with) held ≡ then_do r holds
 held-back (Gives z w a) = ap (λ (b : List ℕ). Gives (if is_zero z then false else true) w b) (append-nil (a ++ []))
 held-back (Faults fault line w a) = refl
+
+-- so a run came to an end,
+over-value : (r : Ran ℤ) → IsOver (then_do r ends_with)
+over-value (Gives z w a) = tt
+over-value (Faults fault line w a) = tt
+
+-- and that of a block
+over-way : (r : Ran Way) → IsOver (then_do r leads_to)
+over-way (Gives Done w a) = tt
+over-way (Gives Broken w a) = tt
+over-way (Gives Continued w a) = tt
+over-way (Gives (Left state) w a) = tt
+over-way (Gives (Returned z) w a) = tt
+over-way (Faults fault line w a) = tt
 
 -- the state that a block left for, by the end of its run
 abbrev left : Exit → World → Ran (Option ℕ)
@@ -131,18 +147,20 @@ state-left-after (Returned z) w = refl
 -- ---- pieces
 
 module _ (p : ProgramTree) (ls : List Link) (c : Code) (hidden : List (List ℕ)) (lines : List ℕ) (names : List (List ℕ)) (flows : List Flow)
-    (texts : texts_of c ≡ flat_map format_at (sites p)) where
+    (texts : texts_of c ≡ flat_map format_at (sites p)) (named : (set : ℕ) → IsInLine (name_by (slice_get p.state_sets set))) where
   -- what holds for all state sets
   abbrev ground : Ground
   ground = ground_of p ls c hidden lines names
 
   -- the runs of a piece, from worlds that are the same outside
   run-of-piece : (set room start : ℕ) → AreFine ground set (flow_of flows set) c.instrs.items → facts_at (flow_of flows set) start ≡ first_facts → (w u : World) → HasLinks ground w →
-      IsSameOutside hidden w u →
+      IsSameOutside hidden w u → IsOver (run_of (context_of (scene_in p set) (entries_of c) room) c.instrs.items start w) →
+      IsOver (run_of (context_of (scene_in p set) (entries_of c) room) c.instrs.items start u) →
       AlikeTo ground (Ends ground) (run_of (context_of (scene_in p set) (entries_of c) room) c.instrs.items start w)
       (run_of (context_of (scene_in p set) (entries_of c) room) c.instrs.items start u)
-  run-of-piece set room start fine empty w u links e =
-      run-alike ground (flow_of flows set) set c.instrs.items fine (context_of (scene_in p set) (entries_of c) room) refl (record { functions = refl; formats = texts }) refl start empty w u links e
+  run-of-piece set room start fine empty w u links e over ends =
+      run-alike ground (flow_of flows set) set c.instrs.items fine (context_of (scene_in p set) (entries_of c) room) refl
+      (record { functions = refl; formats = texts; named = named set }) refl start empty w u links e over ends
 
   -- a condition whose code stands at an address
   test-flows : (set : ℕ) (x : ExprTree) (start : ℕ) → AreFine ground set (flow_of flows set) c.instrs.items → facts_at (flow_of flows set) start ≡ first_facts →
@@ -154,7 +172,8 @@ module _ (p : ProgramTree) (ls : List Link) (c : Code) (hidden : List (List ℕ)
       let runs : AlikeTo ground (Ends ground) (then_do (value w) ends_with) (then_do (value u) ends_with) =
       subst (λ (r : Ran Exit). AlikeTo ground (Ends ground) r (then_do (value u) ends_with)) (code.is w)
       (subst (λ (r : Ran Exit). AlikeTo ground (Ends ground) (run_of (context_of (scene_in p set) (entries_of c) room) c.instrs.items start w) r) (code.is u)
-      (run-of-piece set room start fine empty w u e.links e.outside)) in
+      (run-of-piece set room start fine empty w u e.links e.outside
+      (subst IsOver (sym (code.is w)) (over-value (value w))) (subst IsOver (sym (code.is u)) (over-value (value u))))) in
       alike-by ground (then_do (value w) holds) (then_do (value u) holds)
       (links-by ground w (world_after (then_do (value w) holds)) ((pieces_keep_the_frame (routines_in p) (scene_in p set) refl).condition (Some x) w) e.links)
       (subst (λ (r : Ran Bool). AlikeTo ground (SameValue ground) r (then_do (value u) holds)) (held-back (value w))
@@ -171,7 +190,8 @@ module _ (p : ProgramTree) (ls : List Link) (c : Code) (hidden : List (List ℕ)
       let runs : AlikeTo ground (Ends ground) (then_do (way w) leads_to) (then_do (way u) leads_to) =
       subst (λ (r : Ran Exit). AlikeTo ground (Ends ground) r (then_do (way u) leads_to)) (code.is w)
       (subst (λ (r : Ran Exit). AlikeTo ground (Ends ground) (run_of (context_of (scene_in p set) (entries_of c) room) c.instrs.items start w) r) (code.is u)
-      (run-of-piece set room start fine empty w u e.links e.outside)) in
+      (run-of-piece set room start fine empty w u e.links e.outside
+      (subst IsOver (sym (code.is w)) (over-way (way w))) (subst IsOver (sym (code.is u)) (over-way (way u))))) in
       alike-by ground (then_do (way w) state_left_for) (then_do (way u) state_left_for)
       (links-by ground w (world_after (then_do (way w) state_left_for))
       (ap frame_of (after-then (way w) state_left_for state-left-after) ∙ (pieces_keep_the_frame (routines_in p) (scene_in p set) refl).block b w) e.links)
@@ -205,4 +225,4 @@ module _ (p : ProgramTree) (ls : List Link) (c : Code) (hidden : List (List ℕ)
 
 -- the law
 pub pieces_flow : PiecesFlow
-pieces_flow p ls c hidden lines names flows right name piece is = each-flows p ls c hidden lines names flows right.code.texts right name piece is
+pieces_flow p ls c hidden lines names flows right name piece is = each-flows p ls c hidden lines names flows right.code.texts right.named right name piece is

@@ -16,7 +16,7 @@ use Rattle.snl_flows.specs.Fine.{Begins, IsBound, IsElement, IsFineAt, LeadsAfte
 use Rattle.snl_flows.specs.LeftOut.{IsLeftOut}
 use Rattle.snl_flows.specs.Outside.{has, places_of, IsSameOutside}
 use Rattle.snl_flows.specs.Tables.{Operand, Same, Within, IsSameIn, top_of, below, under, AreAllSame, AreNoMore, Flow, Ground, IsOpen, IsReached, IsSameAt, MayDiffer, facts_at, is_loose, said_at}
-use Rattle.snl_flows.specs.Texts.{SameButValues}
+use Rattle.snl_flows.specs.Texts.{IsInLine, SameButValues}
 use Rattle.snl_flows.proofs.Kept.{keeps-words, plain, SameKept}
 use Rattle.snl_flows.proofs.Operands.{HoldsOf, HoldOf, all-same, as-many, holds-of-same, no-more-of, same-of, under-of}
 use Rattle.snl_flows.proofs.Outcomes.{AlikeTo, lead, less-to, stop, test-to, then-to}
@@ -33,10 +33,11 @@ IsSaidAt f (at ∷ more) b k = (has (said_at f at b) k ≡ true) ⊎ IsSaidAt f 
 abbrev pub Here : Flow → List ℕ → Bool → ℕ → Type 0
 Here f ats b k = (is_loose f b k ≡ false) × IsSaidAt f ats b k
 
--- What code runs with has the functions and the strings of the program.
+-- What code runs with has the functions and the strings of the program, and the name of its state set has no newline.
 pub record IsOfGround (g : Ground) (c : PieceContext) : Type 0 where
   pub functions : g.functions ≡ c.functions
   pub formats : g.formats ≡ c.formats
+  pub named : IsInLine c.name
 
 -- Nothing is said of the operands where calls go on but that they are the same.
 abbrev pub AreBack : Flow → List ℕ → Type 0

@@ -1,5 +1,5 @@
--- The check of tables: what it answers.
-use Rattle.std.specs.Prelude.{◌≡◌, ◌+◌, ◌-◌, ◌==◌, ◌&&◌, ◌||◌, ℕ, zero, suc, Bool, true, false, not, List, [], ◌∷◌, Option, None, Some, nat_le, nat_lt, slice_get, slice_index_or, if◌then◌else◌}
+-- The check of tables, instruction by instruction: what it answers.
+use Rattle.std.specs.Prelude.{◌+◌, ◌-◌, ◌==◌, ◌&&◌, ◌||◌, ℕ, zero, suc, Bool, true, false, not, List, [], ◌∷◌, Option, None, Some, nat_le, nat_lt, slice_get, slice_index_or, if◌then◌else◌}
 use Rattle.snl_text.specs.declared.kinds.Kind.{Kind}
 use Rattle.snl_text.specs.declared.kinds.Kind.TheVariants as kind
 use Rattle.snl_meaning.specs.declared.instrs.Instr.{Instr}
@@ -10,7 +10,7 @@ use Rattle.snl_meaning.specs.Links.{link_from}
 use Rattle.snl_meaning.specs.Names.{format_text}
 use Rattle.snl_meaning.specs.Run.{Entry}
 use Rattle.snl_meaning.specs.Words.{element_place}
-use Rattle.snl_flows.specs.Fine.{AreFine, settled_of}
+use Rattle.snl_flows.specs.Fine.{settled_of}
 use Rattle.snl_flows.specs.Outside.{has, places_of}
 use Rattle.snl_flows.specs.Tables.{Operand, Another, Same, Within, top_of, below, under, Flow, Ground, facts_at, is_loose, said_at}
 
@@ -247,12 +247,3 @@ module _ (g : Ground) (set : ℕ) (f : Flow) where
   is_fine_at at Return = are_all_same (known_at at)
   is_fine_at at (Leave state) = true
   is_fine_at at End = are_all_same (known_at at)
-
-  -- The same of instructions, one after another.
-  abbrev pub are_fine : (at : ℕ) → List Instr → Bool
-  are_fine at [] = true
-  are_fine at (i ∷ is) = (not (facts_at f at).is_reached || is_fine_at at i) && are_fine (at + 1) is
-
--- Where the check of code says so, the table is right.
-abbrev pub ChecksAreRight : Type 0
-ChecksAreRight = (g : Ground) (set : ℕ) (f : Flow) (code : List Instr) → are_fine g set f 0 code ≡ true → AreFine g set f code

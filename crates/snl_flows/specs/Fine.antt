@@ -171,7 +171,3 @@ module _ (g : Ground) (set : ℕ) (f : Flow) where
   IsFineAt at Return = AreAllSame (operands_at at)
   IsFineAt at (Leave state) = Unit {0}
   IsFineAt at End = AreAllSame (operands_at at)
-
-  -- So it is of each instruction of some code that a piece can come to.
-  abbrev pub AreFine : List Instr → Type 0
-  AreFine code = (at : ℕ) (i : Instr) → slice_get code at ≡ Some i → IsReached f at → IsFineAt at i

@@ -1,9 +1,9 @@
 -- What tables have to be for a program, and what holds of the program then.
-use Rattle.std.specs.Prelude.{◌≡◌, ◌<◌, ℕ, Bool, List, [], Some, length, slice_index_or}
+use Rattle.std.specs.Prelude.{◌≡◌, ◌<◌, ℕ, Bool, List, [], Some, length, slice_get, slice_index_or}
 use Rattle.snl_channels.specs.Links.{Link}
 use Rattle.snl_flat.specs.declared.code.Code.{Code}
 use Rattle.snl_flat.specs.declared.starts.Piece.{Piece}
-use Rattle.snl_flat.specs.Heres.{scene_in}
+use Rattle.snl_flat.specs.Heres.{name_by, scene_in}
 use Rattle.snl_flat.specs.Pieces.{IsCodeOf, PieceTree, Test, Action, kept_piece, piece_of, texts_of}
 use Rattle.snl_flat.specs.Starts.{entries_of, holds_in, start_in, table_of}
 use Rattle.snl_load.specs.Meaning.{program_meaning, state_left_for}
@@ -17,11 +17,11 @@ use Rattle.snl_schedule.specs.declared.events.Event.{Event}
 use Rattle.snl_schedule.specs.Event.{line_of}
 use Rattle.snl_syntax.specs.Programs.{ProgramTree}
 use Rattle.snl_alike.specs.TwoRuns.{Agrees, Alike}
-use Rattle.snl_flows.specs.Fine.{AreFine}
+use Rattle.snl_flows.specs.Quiet.{AreFine}
 use Rattle.snl_flows.specs.LeftOut.{IsLeftOut}
 use Rattle.snl_flows.specs.Outside.{IsSameOutside}
 use Rattle.snl_flows.specs.Tables.{Flow, Ground, HasLinks, facts_at, first_facts, no_flow}
-use Rattle.snl_flows.specs.Texts.{SameButValues}
+use Rattle.snl_flows.specs.Texts.{IsInLine, SameButValues}
 
 -- What holds for all state sets of a program with some links, its functions and its strings, where these places are hidden, overflows of
 -- these lines are left out, and puts to these channels and `printf`s of these strings may have other values.
@@ -47,13 +47,14 @@ set_of (Test set e) = set
 set_of (Action set b) = set
 
 -- The tables are right: the code is that of the program; where a piece of the program runs its table is right of the code, and says
--- nothing of where the piece begins.
+-- nothing of where the piece begins. No name of a state set has a newline.
 pub record AreFlowsOf (p : ProgramTree) (ls : List Link) (c : Code) (hidden : List (List ℕ)) (lines : List ℕ) (names : List (List ℕ)) (flows : List Flow) : Type 0 where
   pub code : IsCodeOf p c
   pub fine : (name : Piece) (piece : PieceTree) → piece_of p name ≡ Some piece →
       AreFine (ground_of p ls c hidden lines names) (set_of piece) (flow_of flows (set_of piece)) c.instrs.items
   pub free : (name : Piece) (piece : PieceTree) (start : ℕ) → piece_of p name ≡ Some piece → start_in (table_of c) name ≡ Some start →
       facts_at (flow_of flows (set_of piece)) start ≡ first_facts
+  pub named : (set : ℕ) → IsInLine (name_by (slice_get p.state_sets set))
 
 -- Two worlds are the same outside, and have the links of the program.
 pub record IsAlike (g : Ground) (w u : World) : Type 0 where

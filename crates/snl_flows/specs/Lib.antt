@@ -3,6 +3,8 @@ pub mod Texts
 pub mod LeftOut
 pub mod Tables
 pub mod Fine
+pub mod Quiet
 pub mod Flows
 pub mod Checks
+pub mod QuietChecks
 pub mod Examples

@@ -8,8 +8,13 @@ abbrev pub IsNamed : List (List ℕ) → List ℕ → Type 0
 IsNamed [] name = ⊥
 IsNamed (x ∷ xs) name = (name ≡ x) ⊎ IsNamed xs name
 
+-- It has no newline.
+abbrev pub IsInLine : List ℕ → Type 0
+IsInLine [] = Unit {0}
+IsInLine (b ∷ bs) = (b ≡ 10 → ⊥) × IsInLine bs
+
 -- Each line is the same; or both are lines of a put to a channel of one of the names, or of a `printf` of one of them, which is its string as
--- spelled: at the same time, with values of their own.
+-- spelled: at the same time, with values of their own. Either may have lines more, of such a `printf` in a state set whose name has no newline.
 pub data SameButValues (names : List (List ℕ)) : List ℕ → List ℕ → Type 0 where
   NoLines : SameButValues names [] []
   SameLine : (line a b : List ℕ) → EndsLine line → SameButValues names a b → SameButValues names (line ++ a) (line ++ b)
@@ -17,3 +22,7 @@ pub data SameButValues (names : List (List ℕ)) : List ℕ → List ℕ → Typ
       SameButValues names (put_line ms channel xs ++ a) (put_line ms channel ys ++ b)
   OtherNumbers : (ms : ℕ) (set format : List ℕ) (xs ys : List ℤ) (a b : List ℕ) → IsNamed names format → SameButValues names a b →
       SameButValues names (printed_line ms set format xs ++ a) (printed_line ms set format ys ++ b)
+  FirstPrints : (ms : ℕ) (set format : List ℕ) (xs : List ℤ) (a b : List ℕ) → IsInLine set → IsNamed names format → SameButValues names a b →
+      SameButValues names (printed_line ms set format xs ++ a) b
+  SecondPrints : (ms : ℕ) (set format : List ℕ) (ys : List ℤ) (a b : List ℕ) → IsInLine set → IsNamed names format → SameButValues names a b →
+      SameButValues names a (printed_line ms set format ys ++ b)

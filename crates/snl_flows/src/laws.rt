@@ -1,6 +1,6 @@
 //! Laws of variables that decide nothing. Each is a function without code, whose contract is the law.
 
-ghost use Rattle.snl_flows.specs.Checks.{ChecksAreRight};
+ghost use Rattle.snl_flows.specs.QuietChecks.{ChecksAreRight};
 ghost use Rattle.snl_flows.specs.Examples.{FlowsExamples};
 ghost use Rattle.snl_flows.specs.Flows.{LinesFlow, NothingIsLeftOut, PiecesFlow};
 
