@@ -126,7 +126,7 @@ def memory(programs, folder):
     """A search takes no more than a tenth more than was said."""
     (folder / "p.st").write_text(COUNTERS)
     for megabytes in (20, 60):
-        words = ["search", "--memory", str(megabytes), "--lines", "99", "--seconds", "50", "p.st"]
+        words = ["search", "--memory", str(megabytes), "--lines", "99999", "--seconds", "50", "p.st"]
         ran = peak([programs["snl"], *words], folder, subprocess.DEVNULL)
         if ran.status != 7 or not ran.last.startswith("not all was seen: none up to "):
             return f"status {ran.status}, {ran.last!r}"
