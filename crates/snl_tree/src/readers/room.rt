@@ -57,11 +57,24 @@ pub fn made_of_three<T: Drop, A: Drop, B: Drop, C: Drop, F: FnOnce(A, B, C) -> T
     in_box(&alloc, make(first, second, third))
 }
 
+/// Makes room for one more part. A row has room for one part first, and for twice as many where it is full: most rows of a tree have
+/// one part.
+fn with_room<T: Drop>(row: &mut Vec<T>) -> Result<(), Halt>
+    ensures items { row.new.items ≡ row.old.items }
+    ensures memory { IfErr result (λ halt. halt ≡ Memory) }
+{
+    if row.len() < 2 {
+        row.reserve_exact(1)?;
+    }
+    Ok(())
+}
+
 /// Puts a part at the end of a row.
 pub fn pushed<T: Drop>(row: &mut Vec<T>, part: T) -> Result<(), Halt>
     ensures items { OnOk result (row.new.items ≡ row.old.items ++ part ∷ []) }
     ensures memory { IfErr result (λ halt. halt ≡ Memory) }
 {
+    with_room(row)?;
     row.push(part)?;
     Ok(())
 }
@@ -71,6 +84,7 @@ pub fn added<T: Drop>(row: &mut Vec<T>, part: Box<T>) -> Result<(), Halt>
     ensures items { OnOk result (row.new.items ≡ row.old.items ++ part.value ∷ []) }
     ensures memory { IfErr result (λ halt. halt ≡ Memory) }
 {
+    with_room(row)?;
     row.push(Box::into_inner(part))?;
     Ok(())
 }
