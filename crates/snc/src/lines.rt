@@ -91,8 +91,15 @@ pub fn push_line(
         ++ line_of names.entry.read.now (map (λ name. name.now) names.entry.marked.now)
         (record { pos = pos; severity = severity; number = number; text = text.now })) }
 {
-    let file = file_name(names, pos.file);
-    push_named(out, file, pos.line, head(severity, number), number, text)?;
+    let file = file_name(names, pos.file as usize);
+    push_named(
+        out,
+        file,
+        pos.line as usize,
+        head(severity, number),
+        number,
+        text,
+    )?;
     Ok(())
 }
 

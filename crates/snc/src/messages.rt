@@ -76,7 +76,7 @@ fn fault_messages(
     let (Some(text), Some(pos)) = (fault.text(), fault.pos()) else {
         return Err(AllocError);
     };
-    let marked = marked_names(alloc, front(source, pos.offset))?;
+    let marked = marked_names(alloc, front(source, pos.offset as usize))?;
     let names = Names {
         read: file,
         marked: marked.as_slice(),

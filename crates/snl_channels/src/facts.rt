@@ -64,7 +64,7 @@ impl Monitored {
         ensures { OnOk result ((v k : ℕ) → monitored_in self.new v k
             ≡ (monitored_in self.old v k || spec.speaks_of part v k)) }
     {
-        let variable = part.variable.offset;
+        let variable = part.variable.offset as usize;
         match part.extent {
             Extent::Element(element) => {
                 self.singles.insert((variable, element))?;
@@ -150,7 +150,7 @@ impl<'a> Syncs<'a> {
             ≡ synced_in self.old v k (option_or
             (only_if (spec.speaks_of part v k) (synced_view synced.entry)) later)) }
     {
-        let variable = part.variable.offset;
+        let variable = part.variable.offset as usize;
         match part.extent {
             Extent::Element(element) => {
                 note_single(&self.wholes, &mut self.singles, variable, element, synced)

@@ -64,7 +64,7 @@ fn tie_of<'s, 'a>(
     ensures { result ≡ spec.tie facts.now name.entry part first count channel.entry }
 {
     let place = part.variable;
-    let synced = facts.synced_as(place.offset, first);
+    let synced = facts.synced_as(place.offset as usize, first);
     Tie {
         variable: Named {
             name: name.text,
@@ -73,7 +73,7 @@ fn tie_of<'s, 'a>(
         first,
         count,
         channel,
-        monitored: facts.is_monitored(place.offset, first),
+        monitored: facts.is_monitored(place.offset as usize, first),
         flag: synced.flag,
         queue: synced.queue,
     }

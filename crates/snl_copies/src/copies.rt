@@ -31,7 +31,7 @@ fn is_at(place: Option<Pos>, variable: usize) -> bool
     ensures { result ≡ spec.is_at variable place }
 {
     match place {
-        Some(place) => place.offset == variable,
+        Some(place) => (place.offset as usize) == variable,
         None => false,
     }
 }
@@ -104,8 +104,8 @@ fn stores(touch: &Touch, uses: &UseTable, variable: usize) -> bool
     ensures { result ≡ spec.stores (declared_at uses.now) variable touch.now }
 {
     match touch {
-        Touch::Writes(name) => is_at(uses.declared(name.pos.offset), variable),
-        Touch::Begins(name) => name.pos.offset == variable,
+        Touch::Writes(name) => is_at(uses.declared(name.pos.offset as usize), variable),
+        Touch::Begins(name) => (name.pos.offset as usize) == variable,
         _ => false,
     }
 }

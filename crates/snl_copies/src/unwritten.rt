@@ -48,8 +48,8 @@ fn push_read<'a>(
     ensures { OnOk result (found.new.items ≡ found.old.items
         ++ spec.unwritten_at way.now.uses.now way.now.copy.now (Touch.Reads name.now)) }
 {
-    if let Some(declared) = way.uses.declared(name.pos.offset) {
-        if !way.copy.is_written(way.uses, declared.offset) {
+    if let Some(declared) = way.uses.declared(name.pos.offset as usize) {
+        if !way.copy.is_written(way.uses, declared.offset as usize) {
             let name = *name;
             found.push(Unwritten { name, declared })?;
         }

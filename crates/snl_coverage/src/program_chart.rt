@@ -45,7 +45,7 @@ fn declared_puts<'a>(
     let mut declared = IndexSet::new(alloc);
     for name in names {
         if let Some(pos) = checked.declared(*name) {
-            declared.insert(pos.offset)?;
+            declared.insert(pos.offset as usize)?;
         }
     }
     Ok(declared)

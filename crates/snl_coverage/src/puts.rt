@@ -15,7 +15,7 @@ pub(crate) fn put_names(alloc: Global, tokens: &[Token]) -> Result<Vec<usize>, A
     for token in tokens {
         match token.kind {
             Kind::Name if is_put => {
-                names.push(token.pos.offset)?;
+                names.push(token.pos.offset as usize)?;
                 is_put = false;
             }
             Kind::Name => is_put = token.text == b"pvPut".as_slice(),
@@ -63,7 +63,7 @@ fn put_number<'l>(
     seen: &mut IndexSet<usize>,
 ) -> Result<Option<usize>, AllocError> {
     let (number, _) = channels.insert_full(link.name.as_slice())?;
-    if declared.contains(&link.variable.offset) && seen.insert(number)? {
+    if declared.contains(&(link.variable.offset as usize)) && seen.insert(number)? {
         Ok(Some(number))
     } else {
         Ok(None)

@@ -13,8 +13,8 @@ fn token_of<'a>(piece: CureToken, pos: Pos) -> Token<'a>
 {
     Token {
         kind: piece.kind,
-        text: piece.text,
         pos,
+        text: piece.text,
     }
 }
 

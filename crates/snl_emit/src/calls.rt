@@ -53,7 +53,7 @@ fn emit_routine<'a>(
     match known.function(name) {
         Some(function) => {
             let count = count_values(arguments);
-            let line = name.pos.line;
+            let line = name.pos.line as usize;
             put(
                 code,
                 Instr::Call {

@@ -22,7 +22,7 @@ fn named_variable<'a>(expression: &Expr<'a>, known: &Known<'_, 'a>) -> Option<(V
     match expression {
         Expr::Parenthesized(inner) => named_variable(inner, known),
         Expr::Named(name) => match sense_in(name, known) {
-            Sense::Varies(variable) => Some((variable, name.pos.line)),
+            Sense::Varies(variable) => Some((variable, name.pos.line as usize)),
             Sense::Stands(_) => None,
         },
         _ => None,
@@ -92,7 +92,14 @@ fn emit_assigned<'a>(
                     line,
                 },
             )?;
-            emit_renewed(variable, joined, operator.pos.line, value, known, code)
+            emit_renewed(
+                variable,
+                joined,
+                operator.pos.line as usize,
+                value,
+                known,
+                code,
+            )
         }
         None => emit_dropped(whole, known, code),
     }
@@ -116,7 +123,7 @@ fn emit_stepped<'a>(
     };
     match sign_of(sign.kind) {
         Unary::ByOne(operator) => {
-            let operator_line = sign.pos.line;
+            let operator_line = sign.pos.line as usize;
             put(
                 code,
                 Instr::Increment {

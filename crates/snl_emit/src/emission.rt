@@ -42,7 +42,7 @@ pub fn emit_expression<'a>(
             name,
             bracket,
             index,
-        } => emit_element(index, known, *name, bracket.pos.line, code),
+        } => emit_element(index, known, *name, bracket.pos.line as usize, code),
         Expr::Call(name, arguments) => emit_call(arguments.as_slice(), known, *name, code),
         Expr::Postfix(target, operator) => emit_sign(target, known, *operator, true, code),
         Expr::Prefix(operator, operand) => match constant_number(expression, known.sites) {
@@ -68,7 +68,7 @@ pub fn emit_expression<'a>(
             value,
         } => {
             let joined = compound_of(operator.kind);
-            put_stored(target, known, joined, operator.pos.line, code)?;
+            put_stored(target, known, joined, operator.pos.line as usize, code)?;
             emit_expression(value, known, code)?;
             emit_place(target, known, joined, code)
         }
@@ -198,7 +198,7 @@ fn emit_term<'a>(
             put(code, Instr::Drop)
         }
         Joint::Operation(operator) => {
-            let line = term.operator.pos.line;
+            let line = term.operator.pos.line as usize;
             emit_operation(&term.operand, known, operator, line, code)
         }
     }
@@ -244,7 +244,7 @@ fn emit_sign<'a>(
         ≡ form.sign_code (here_of known.now) sign.entry is_before (view operand.now)
         ++ reverse code.old.items) }
 {
-    let line = sign.pos.line;
+    let line = sign.pos.line as usize;
     match sign_of(sign.kind) {
         Unary::ByOne(operator) => {
             put(code, adjusted(operand, known, operator, line, is_before))?;
@@ -277,7 +277,12 @@ pub fn emit_place<'a>(
             bracket,
             index,
         } => {
-            put_checked(code, sense_in(name, known), bracket.pos.line, operator)?;
+            put_checked(
+                code,
+                sense_in(name, known),
+                bracket.pos.line as usize,
+                operator,
+            )?;
             emit_expression(index, known, code)
         }
         _ => Ok(()),

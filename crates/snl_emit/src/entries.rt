@@ -84,8 +84,8 @@ fn emit_begun<'a>(
         declarator.now.name.pos.line 0 (values_of (declarator_view declarator.now).initial)
         ++ reverse code.old.items) }
 {
-    let variable = known.variable(declarator.name.pos.offset);
-    let line = declarator.name.pos.line;
+    let variable = known.variable(declarator.name.pos.offset as usize);
+    let line = declarator.name.pos.line as usize;
     emit_initial(&declarator.initial, known, variable, line, code)
 }
 
@@ -131,7 +131,7 @@ fn emit_cleared<'a>(
         ≡ spec.cleared_code (variable_for (here_of known.now) (declarator_view declarator.now))
         ++ reverse code.old.items) }
 {
-    match known.variable(declarator.name.pos.offset) {
+    match known.variable(declarator.name.pos.offset as usize) {
         Some(variable) => put(code, Instr::Clear(variable)),
         None => Ok(()),
     }

@@ -147,7 +147,7 @@ fn emit_statement<'a>(
         Stmt::Break(_) => put_jump(code, around.end),
         Stmt::Continue(_) => put_jump(code, around.again),
         Stmt::State { name, .. } => put_leave(known.within, known.state(*name), code),
-        Stmt::Return { word, value } => emit_return(value, known, word.pos.line, code),
+        Stmt::Return { word, value } => emit_return(value, known, word.pos.line as usize, code),
         Stmt::If { condition, first } => {
             emit_when(first, known, around, code)?;
             emit_expression(condition, known, code)
@@ -169,14 +169,14 @@ fn emit_statement<'a>(
             let end = code.len();
             open(code)?;
             emit_test(condition, known, code)?;
-            emit_turn(body, known, word.pos.line, end, code.len(), code)
+            emit_turn(body, known, word.pos.line as usize, end, code.len(), code)
         }
         Stmt::For { word, header, body } => {
             let end = code.len();
             open_tested(&header.condition, known, code)?;
             let test = code.len();
             emit_if_there(&header.step, known, code)?;
-            emit_turn(body, known, word.pos.line, end, test, code)?;
+            emit_turn(body, known, word.pos.line as usize, end, test, code)?;
             emit_if_there(&header.start, known, code)
         }
     }

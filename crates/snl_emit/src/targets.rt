@@ -97,11 +97,11 @@ pub fn put_stored<'a>(
         Expr::Parenthesized(inner) => put_stored(inner, known, operator, operator_line, code),
         Expr::Named(name) => {
             let sense = sense_in(name, known);
-            put_stored_alone(code, sense, operator, operator_line, name.pos.line)
+            put_stored_alone(code, sense, operator, operator_line, name.pos.line as usize)
         }
         Expr::Element { name, .. } => {
             let sense = sense_in(name, known);
-            put_stored_at(code, sense, operator, operator_line, name.pos.line)
+            put_stored_at(code, sense, operator, operator_line, name.pos.line as usize)
         }
         _ => Ok(()),
     }
@@ -166,11 +166,23 @@ pub fn adjusted<'a>(
         Expr::Parenthesized(inner) => adjusted(inner, known, operator, operator_line, is_before),
         Expr::Named(name) => {
             let sense = sense_in(name, known);
-            adjusted_alone(sense, operator, operator_line, name.pos.line, is_before)
+            adjusted_alone(
+                sense,
+                operator,
+                operator_line,
+                name.pos.line as usize,
+                is_before,
+            )
         }
         Expr::Element { name, .. } => {
             let sense = sense_in(name, known);
-            adjusted_at(sense, operator, operator_line, name.pos.line, is_before)
+            adjusted_at(
+                sense,
+                operator,
+                operator_line,
+                name.pos.line as usize,
+                is_before,
+            )
         }
         _ => Instr::Push(0),
     }

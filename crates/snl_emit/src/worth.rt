@@ -19,7 +19,7 @@ use snl_text::Token;
 fn of_use<'a>(name: &Token<'a>, sites: &Sites<'_, 'a>) -> Constant
     ensures { result ≡ spec.of_use sites.now name.now }
 {
-    match sites.declared(name.pos.offset) {
+    match sites.declared(name.pos.offset as usize) {
         Some(_) => Constant::Varies,
         None => worth(predefined(name.text)),
     }

@@ -56,7 +56,7 @@ fn parameters_of(
 {
     let mut kept = Vec::new(alloc);
     for parameter in parameters {
-        if let Some(variable) = places.variable(parameter.name.pos.offset) {
+        if let Some(variable) = places.variable(parameter.name.pos.offset as usize) {
             kept.push(variable)?;
         }
     }

@@ -12,7 +12,7 @@ fn text_on<'a>(tokens: &[Token<'a>], line: usize, at: usize) -> Option<&'a [u8]>
     ensures { option_map (λ text. text.now) result ≡ spec.text_on line (slice_get tokens.now at) }
 {
     match tokens.get(at) {
-        Some(token) if token.pos.line == line => Some(token.text),
+        Some(token) if (token.pos.line as usize) == line => Some(token.text),
         _ => None,
     }
 }
@@ -42,7 +42,7 @@ pub fn help_for(tokens: &[Token], k: usize) -> Option<&'static [u8]>
     ensures { option_map (λ help. help.now) result ≡ spec.help_for tokens.now k }
 {
     match tokens.get(k) {
-        Some(token) => help_before(tokens, token.pos.line, k + 1),
+        Some(token) => help_before(tokens, token.pos.line as usize, k + 1),
         None => None,
     }
 }

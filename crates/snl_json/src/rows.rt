@@ -60,9 +60,9 @@ fn token_value(alloc: Global, token: Token<'_>) -> Result<Value, AllocError>
 {
     let kind = Value::try_from_str(alloc, kind_name(token.kind))?;
     let text = Value::String(letters(alloc, token.text)?);
-    let offset = Value::from(token.pos.offset);
-    let file = Value::from(token.pos.file);
-    let line = Value::from(token.pos.line);
+    let offset = Value::from(token.pos.offset as usize);
+    let file = Value::from(token.pos.file as usize);
+    let line = Value::from(token.pos.line as usize);
     Ok(Value::Array(vec![in alloc; kind, text, offset, file, line]?))
 }
 

@@ -68,7 +68,7 @@ impl Begun {
             _ => {}
         }
         if is_inside {
-            self.add_between(source, token.pos.offset)?;
+            self.add_between(source, token.pos.offset as usize)?;
         }
         if self.depth == 0 {
             return Ok(true);
@@ -76,7 +76,7 @@ impl Begun {
         if is_inside {
             self.add(token.text)?;
         }
-        self.end = token.pos.offset.saturating_add(token.text.len());
+        self.end = (token.pos.offset as usize).saturating_add(token.text.len());
         Ok(false)
     }
 
@@ -136,7 +136,7 @@ impl Conditions {
             begun = match begun {
                 Some(condition) => after(condition, source, *token, &mut texts)?,
                 None if matches!(token.kind, Kind::When) => {
-                    Some(Begun::new(alloc, token.pos.offset))
+                    Some(Begun::new(alloc, token.pos.offset as usize))
                 }
                 None => None,
             };

@@ -35,7 +35,7 @@ fn name_at(source: &[u8], offset: usize) -> &[u8] {
 fn is_shared(links: &[Link], offset: usize) -> bool {
     let mut count = 0usize;
     for link in links {
-        if link.variable.offset == offset {
+        if (link.variable.offset as usize) == offset {
             if count == 1 {
                 return true;
             }
@@ -48,14 +48,14 @@ fn is_shared(links: &[Link], offset: usize) -> bool {
 /// The variable of a link of a source.
 pub fn variable_of<'s>(source: &'s [u8], links: &[Link], link: &Link) -> Variable<'s> {
     let place = link.variable;
-    let element = if is_shared(links, place.offset) {
+    let element = if is_shared(links, place.offset as usize) {
         Some(link.first)
     } else {
         None
     };
     Variable {
-        name: name_at(source, place.offset),
+        name: name_at(source, place.offset as usize),
         element,
-        line: place.line,
+        line: place.line as usize,
     }
 }

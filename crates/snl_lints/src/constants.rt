@@ -23,7 +23,7 @@ fn worth_of_name(name: Token, uses: &UseTable) -> Constant
     ensures { result ≡ spec.unless_declared (declared_at uses.now name.entry.pos.offset)
         (predefined name.entry.text.now) }
 {
-    match uses.declared(name.pos.offset) {
+    match uses.declared(name.pos.offset as usize) {
         Some(_) => Constant::Varies,
         None => worth(predefined(name.text)),
     }

@@ -77,9 +77,9 @@ fn note_doer(
         (spec.doers_in table.old v) set) }
 {
     if let Some(name) = name_by(fact, touch) {
-        if let Some(declared) = uses.declared(name.pos.offset) {
-            let doers = doers_in(table, declared.offset).and_also(set);
-            table.insert(declared.offset, doers)?;
+        if let Some(declared) = uses.declared(name.pos.offset as usize) {
+            let doers = doers_in(table, declared.offset as usize).and_also(set);
+            table.insert(declared.offset as usize, doers)?;
         }
     }
     Ok(())

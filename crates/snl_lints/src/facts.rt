@@ -84,8 +84,8 @@ fn note_meant(
         ≡ (contains nat_eq variables.old v || spec.means (declared_at uses.now) v name.entry)) }
 {
     if let Some(name) = name {
-        if let Some(declared) = uses.declared(name.pos.offset) {
-            variables.insert(declared.offset)?;
+        if let Some(declared) = uses.declared(name.pos.offset as usize) {
+            variables.insert(declared.offset as usize)?;
         }
     }
     Ok(())

@@ -15,7 +15,7 @@ fn note_held(table: &mut IndexMap<usize, ValueDomain>, touch: &Touch) -> Result<
         ≡ option_or (spec.held_by touch.now v) (get nat_eq table.old v)) }
 {
     if let Touch::Holds(name, held) = touch {
-        table.insert(name.pos.offset, *held)?;
+        table.insert(name.pos.offset as usize, *held)?;
     }
     Ok(())
 }

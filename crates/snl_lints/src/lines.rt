@@ -191,9 +191,15 @@ fn push_line(
         text.entry.file.now remark.now) }
 {
     let pos = remark.token.pos;
-    let file = file_name(text, pos.file);
-    *counted = column_at(text.source, *counted, pos.offset);
-    push_place(out, file, pos.line, counted.column, remark.token.text)?;
+    let file = file_name(text, pos.file as usize);
+    *counted = column_at(text.source, *counted, pos.offset as usize);
+    push_place(
+        out,
+        file,
+        pos.line as usize,
+        counted.column,
+        remark.token.text,
+    )?;
     push_words(out, words_of(remark.lint), name_of(remark.lint))
 }
 
@@ -268,7 +274,7 @@ fn push_unless(
         ++ spec.line_unless (map string_bytes silenced.now) text.entry.source.now
         (map (λ name. name.now) text.entry.marked.now) text.entry.file.now remark.now) }
 {
-    if is_silenced(alloc, silenced, remark.lint, remark.token.pos.line)? {
+    if is_silenced(alloc, silenced, remark.lint, remark.token.pos.line as usize)? {
         Ok(())
     } else {
         push_line(out, text, counted, remark)

@@ -123,7 +123,8 @@ fn is_unread(facts: &VariableFacts, place: Option<Pos>) -> bool
 {
     match place {
         Some(place) => {
-            !facts.is_done(Fact::Read, place.offset) && !facts.is_done(Fact::Flagged, place.offset)
+            !facts.is_done(Fact::Read, place.offset as usize)
+                && !facts.is_done(Fact::Flagged, place.offset as usize)
         }
         None => false,
     }
@@ -134,7 +135,7 @@ fn is_answered(facts: &VariableFacts, place: Option<Pos>) -> bool
     ensures { result ≡ spec.of_meant (spec.is_answered (known_in facts.now)) place }
 {
     match place {
-        Some(place) => !facts.is_done(Fact::PutAsync, place.offset),
+        Some(place) => !facts.is_done(Fact::PutAsync, place.offset as usize),
         None => false,
     }
 }
@@ -148,7 +149,7 @@ fn push_declared<'a>(
     ensures { OnOk result (remarks.new.items
         ≡ remarks.old.items ++ spec.at_declared (known_by_tables tables.now) token.entry) }
 {
-    let variable = token.pos.offset;
+    let variable = token.pos.offset as usize;
     push_when(remarks, token, Lint::Shared, tables.is_shared(variable))?;
     push_when(
         remarks,
@@ -174,7 +175,7 @@ fn push_monitored<'a>(
     ensures { OnOk result (remarks.new.items ≡ remarks.old.items
         ++ spec.at_monitored (declared_at uses.now) (known_in facts.now) token.entry) }
 {
-    let test = is_unread(facts, uses.declared(token.pos.offset));
+    let test = is_unread(facts, uses.declared(token.pos.offset as usize));
     push_when(remarks, token, Lint::Unread, test)
 }
 
@@ -191,7 +192,7 @@ fn push_asked<'a>(
 {
     match query {
         Query::PvPutComplete => {
-            let test = is_answered(facts, uses.declared(token.pos.offset));
+            let test = is_answered(facts, uses.declared(token.pos.offset as usize));
             push_when(remarks, token, Lint::Answered, test)
         }
         _ => Ok(()),
@@ -204,7 +205,7 @@ fn is_unfitting(tables: &Tables, place: Option<Pos>, number: i64) -> bool
         number) place }
 {
     match place {
-        Some(place) => lacks_number(tables.held(place.offset), number),
+        Some(place) => lacks_number(tables.held(place.offset as usize), number),
         None => false,
     }
 }
@@ -215,7 +216,7 @@ fn is_missing(tables: &Tables, place: Option<Pos>, number: i64) -> bool
         number) place }
 {
     match place {
-        Some(place) => misses_element(tables.held(place.offset), number),
+        Some(place) => misses_element(tables.held(place.offset as usize), number),
         None => false,
     }
 }
@@ -252,11 +253,11 @@ fn push_variable<'a>(
         Touch::Monitors(name) => push_monitored(*name, &tables.facts, uses, remarks),
         Touch::Asks(query, name) => push_asked(*name, *query, &tables.facts, uses, remarks),
         Touch::Stores(name, number) => {
-            let test = is_unfitting(tables, uses.declared(name.pos.offset), *number);
+            let test = is_unfitting(tables, uses.declared(name.pos.offset as usize), *number);
             push_when(remarks, *name, Lint::Unfitting, test)
         }
         Touch::Picks(name, number) => {
-            let test = is_missing(tables, uses.declared(name.pos.offset), *number);
+            let test = is_missing(tables, uses.declared(name.pos.offset as usize), *number);
             push_when(remarks, *name, Lint::Missing, test)
         }
         _ => Ok(()),

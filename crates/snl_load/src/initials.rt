@@ -16,6 +16,7 @@ use snl_channels::Link;
 use snl_meaning::Offsets;
 use snl_resolve::{Constant, CopyVariable, Scopes, constant_of};
 use snl_syntax::{Expr, Initialiser};
+use snl_text::Pos;
 use std::alloc::{AllocError, Global};
 
 /// What a constant is worth in a range of numbers, and 0 where it has no place there.
@@ -100,6 +101,13 @@ pub fn first_words(alloc: Global, variables: &[CopyVariable]) -> Result<Vec<i64>
     Ok(words)
 }
 
+/// How many bytes of the source stand before a place.
+fn offset_of(pos: Pos) -> usize
+    ensures { result ≡ pos.offset }
+{
+    pos.offset as usize
+}
+
 /// The variable that is declared at an offset, among those of a copy.
 fn held_in<'p, 'a>(
     variables: &[CopyVariable<'p, 'a>],
@@ -110,7 +118,7 @@ fn held_in<'p, 'a>(
 {
     for number in 0..variables.len() {
         let held = variables[number];
-        if held.name.pos.offset == offset {
+        if offset_of(held.name.pos) == offset {
             return Some(held);
         }
     }
@@ -139,7 +147,7 @@ fn offsets_of(alloc: Global, variables: &[CopyVariable]) -> Result<Offsets, Allo
 {
     let mut offsets = Vec::new(alloc);
     for number in 0..variables.len() {
-        offsets.push(variables[number].name.pos.offset)?;
+        offsets.push(offset_of(variables[number].name.pos))?;
     }
     Offsets::of(alloc, offsets)
 }
@@ -207,7 +215,7 @@ fn push_buffer(
     ensures { OnOk result (words.new.items ≡ words.old.items
         ++ spec.first_buffer (sets_of sets.now) (link_view link.now)) }
 {
-    match held_by(sets, offsets, link.variable.offset) {
+    match held_by(sets, offsets, link.variable.offset as usize) {
         Some(held) => push_elements(&held, link.first, link.count, words),
         None => push_zeros(link.count, words),
     }

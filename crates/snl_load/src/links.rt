@@ -17,7 +17,7 @@ use std::alloc::{AllocError, Global};
 fn home_in(places: &Places, link: &Link) -> Option<usize>
     ensures { result ≡ spec.home_in places.now (link_view link.now) }
 {
-    match places.variable(link.variable.offset) {
+    match places.variable(link.variable.offset as usize) {
         Some(variable) => Some(variable.place.saturating_add(link.first)),
         None => None,
     }
@@ -66,7 +66,7 @@ fn flag_of(link: &Link, flags: &Offsets) -> Option<usize>
         (link_view link.now).flag }
 {
     match link.flag {
-        Some(flag) => Some(flags.number(flag.offset)),
+        Some(flag) => Some(flags.number(flag.offset as usize)),
         None => None,
     }
 }
@@ -82,7 +82,7 @@ fn tie_of(
     ensures { result ≡ spec.tie_of (names_in names.now) flags.now copies.now from
         (link_view link.now) }
 {
-    let (least, greatest) = match variable_among(copies, link.variable.offset) {
+    let (least, greatest) = match variable_among(copies, link.variable.offset as usize) {
         Some(variable) => (variable.least, variable.greatest),
         None => (0, 0),
     };

@@ -86,7 +86,7 @@ fn clause_plan<'a>(
         block,
         is_empty: is_empty_at(code.instrs(), block),
         target: target_of(clause.target, states),
-        line: clause.word.pos.line,
+        line: clause.word.pos.line as usize,
         number,
     }
 }

@@ -94,7 +94,7 @@ pub fn push_places<'p, 'a>(
         let held = &variables[number];
         let variable = held_from(place, is_shared, held);
         places.push(Placed {
-            offset: held.name.pos.offset,
+            offset: held.name.pos.offset as usize,
             variable,
         })?;
         place = place.saturating_add(variable.size);
@@ -114,8 +114,8 @@ impl<'s, 'a> Known<'s, 'a> {
     pub fn sense(&self, name: Token<'a>) -> Sense
         ensures { result ≡ spec.sense_of (here_of self.now) name.entry }
     {
-        let variable = match self.sites.declared(name.pos.offset) {
-            Some(place) => self.variables.variable(place.offset),
+        let variable = match self.sites.declared(name.pos.offset as usize) {
+            Some(place) => self.variables.variable(place.offset as usize),
             None => None,
         };
         match variable {

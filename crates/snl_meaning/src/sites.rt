@@ -52,7 +52,7 @@ fn push_flag(site: &Site, flags: &mut Vec<usize>) -> Result<(), AllocError>
         ..
     } = site
     {
-        flags.push(name.pos.offset)?;
+        flags.push(name.pos.offset as usize)?;
     }
     Ok(())
 }
@@ -147,8 +147,8 @@ impl<'s, 'a> Sites<'s, 'a> {
         ensures { result ≡ spec.number_by (spec.flags_of self.now)
             (declared_in name.entry.pos.offset self.now) }
     {
-        match self.declared(name.pos.offset) {
-            Some(declared) => self.flags.number(declared.offset),
+        match self.declared(name.pos.offset as usize) {
+            Some(declared) => self.flags.number(declared.offset as usize),
             None => self.flags.len(),
         }
     }

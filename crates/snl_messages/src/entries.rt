@@ -14,7 +14,7 @@ use std::alloc::{AllocError, Global};
 #[derive(Clone, Copy, PartialEq, Eq, PartialOrd, Ord)]
 pub struct Key {
     /// The byte at which it stands.
-    pub offset: usize,
+    pub offset: u32,
     /// Errors come first.
     pub is_warning: bool,
     pub number: u8, // after E or W
@@ -27,8 +27,8 @@ pub struct Entry {
     /// What it is sorted by first.
     pub key: Key,
     rank: u8,
-    file: usize,
-    line: usize,
+    file: u32,
+    line: u32,
     text: Vec<u8>,
 }
 

@@ -25,8 +25,8 @@ fn note_meant(site: &Site, places: &mut IndexMap<usize, Option<Pos>>) -> Result<
         ≡ place_in places.old q (spec.declared_by q (spec.use_at site.now) later)) }
 {
     if let Some((name, meaning)) = use_at(site) {
-        if !places.contains_key(&name.pos.offset) {
-            places.insert(name.pos.offset, declared_pos(meaning))?;
+        if !places.contains_key(&(name.pos.offset as usize)) {
+            places.insert(name.pos.offset as usize, declared_pos(meaning))?;
         }
     }
     Ok(())

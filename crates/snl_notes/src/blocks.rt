@@ -14,7 +14,10 @@ use std::alloc::AllocError;
 fn push_place(out: &mut Vec<u8>, note: Note) -> Result<(), AllocError> {
     let mut digits = Buffer::new();
     push_all(out, &[note.file, b":"])?;
-    push_all(out, &[digits.format(note.said.pos.line).as_bytes(), b":"])?;
+    push_all(
+        out,
+        &[digits.format(note.said.pos.line as usize).as_bytes(), b":"],
+    )?;
     push_all(out, &[digits.format(note.column).as_bytes(), b": "])
 }
 
@@ -61,11 +64,11 @@ fn push_advice(out: &mut Vec<u8>, advice: Advice) -> Result<(), AllocError> {
 /// Adds a block: an empty line, the place and what is said of it, the line of the source, and what stands below it.
 fn push_block(out: &mut Vec<u8>, source: &[u8], note: Note) -> Result<(), AllocError> {
     let mut digits = Buffer::new();
-    let line = digits.format(note.said.pos.line).as_bytes();
+    let line = digits.format(note.said.pos.line as usize).as_bytes();
     push_all(out, &[b"\n"])?;
     push_place(out, note)?;
     push_said(out, note.said)?;
-    push_excerpt(out, source, note.said.pos.offset, line)?;
+    push_excerpt(out, source, note.said.pos.offset as usize, line)?;
     push_advice(out, note.advice)
 }
 
@@ -107,8 +110,8 @@ pub fn push_note(
     advice: Advice,
 ) -> Result<(), AllocError> {
     let note = Note {
-        file: file_name(sheet.text, said.pos.file),
-        column: columns.column(said.pos.offset),
+        file: file_name(sheet.text, said.pos.file as usize),
+        column: columns.column(said.pos.offset as usize),
         said,
         advice,
     };

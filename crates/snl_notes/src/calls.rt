@@ -64,7 +64,7 @@ fn below_help<'a>(tokens: &[Token], name: &[u8]) -> Option<Help<'a>> {
     let token = tokens.get(below)?;
     Some(Help::Counted(
         b"it is defined below, in line ",
-        token.pos.line,
+        token.pos.line as usize,
         b": move it up, since a function stands in front of its calls",
     ))
 }

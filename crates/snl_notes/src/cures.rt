@@ -37,7 +37,7 @@ fn line_above(tokens: &[Token], at: usize, piece: CureToken) -> Option<usize> {
     let before = token_before(tokens, at)?;
     let token = tokens.get(at)?;
     if ends(piece) && before.pos.line < token.pos.line && before.pos.file == token.pos.file {
-        Some(before.pos.line)
+        Some(before.pos.line as usize)
     } else {
         None
     }
@@ -117,8 +117,8 @@ fn blank_behind(piece: CureToken) -> &'static [u8] {
 /// A change that puts a piece behind the token of a number.
 fn put_behind(before: Token, piece: CureToken) -> Edit {
     Edit {
-        offset: before.pos.offset.saturating_add(before.text.len()),
-        line: before.pos.line,
+        offset: (before.pos.offset as usize).saturating_add(before.text.len()),
+        line: before.pos.line as usize,
         length: 0,
         text: [blank_of(piece), piece.text, b""],
     }
@@ -127,8 +127,8 @@ fn put_behind(before: Token, piece: CureToken) -> Edit {
 /// A change that puts a piece in front of a token.
 fn put_before(token: Token, piece: CureToken) -> Edit {
     Edit {
-        offset: token.pos.offset,
-        line: token.pos.line,
+        offset: token.pos.offset as usize,
+        line: token.pos.line as usize,
         length: 0,
         text: [blank_of(piece), piece.text, blank_behind(piece)],
     }
@@ -149,8 +149,8 @@ fn put_edit(tokens: &[Token], at: usize, piece: CureToken) -> Option<Edit> {
 /// A change that takes a token out, or puts something in its place.
 fn change(token: Token, text: [&'static [u8]; 3]) -> Edit {
     Edit {
-        offset: token.pos.offset,
-        line: token.pos.line,
+        offset: token.pos.offset as usize,
+        line: token.pos.line as usize,
         length: token.text.len(),
         text,
     }
@@ -158,7 +158,7 @@ fn change(token: Token, text: [&'static [u8]; 3]) -> Edit {
 
 /// Whether a token stands close behind another one.
 fn adjoins(before: Token, token: Token) -> bool {
-    before.pos.offset.saturating_add(before.text.len()) == token.pos.offset
+    (before.pos.offset as usize).saturating_add(before.text.len()) == (token.pos.offset as usize)
 }
 
 /// What stands in the place of the token of a number that is left out: a blank where else those on both sides would be one.

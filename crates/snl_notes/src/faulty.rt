@@ -15,7 +15,7 @@ use std::alloc::{AllocError, Global};
 
 /// What helps, by what stands there.
 fn fault_help<'a>(source: &'a [u8], fault: LexFault, pos: Pos) -> Option<Help<'a>> {
-    let rest = source.get(pos.offset..)?;
+    let rest = source.get((pos.offset as usize)..)?;
     match fault {
         LexFault::BadByte(_) => Some(byte_help(rest)),
         LexFault::BadNumber(_) => Some(Help::Words(number_help(rest))),
@@ -84,7 +84,7 @@ pub fn fault_notes(alloc: Global, read: Read, fault: LexFault) -> Result<Vec<u8>
     let Some(pos) = fault.pos() else {
         return Err(AllocError);
     };
-    match lex(alloc, front(read.source, pos.offset)) {
+    match lex(alloc, front(read.source, pos.offset as usize)) {
         Ok(lexed) => named_notes(alloc, read, lexed.files.as_slice(), fault),
         Err(_) => named_notes(alloc, read, &[], fault),
     }

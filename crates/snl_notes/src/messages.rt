@@ -70,7 +70,7 @@ fn message_help<'a>(
     }
     match first_like(messages, message) {
         Some(first) if first.pos.offset < message.pos.offset => {
-            Ok(Some(Help::Counted(b"as in line ", first.pos.line, b"")))
+            Ok(Some(Help::Counted(b"as in line ", first.pos.line as usize, b"")))
         }
         _ => error_help(alloc, tokens, message.number, at),
     }
@@ -79,7 +79,7 @@ fn message_help<'a>(
 /// How many bytes the token of a number has that stands at an offset; 1 where none stands there.
 fn length_at(tokens: &[Token], at: usize, offset: usize) -> usize {
     match tokens.get(at) {
-        Some(token) if token.pos.offset == offset => token.text.len(),
+        Some(token) if (token.pos.offset as usize) == offset => token.text.len(),
         _ => 1,
     }
 }
@@ -93,7 +93,7 @@ fn push_message(
     message: &Message,
     reached: &mut Reached,
 ) -> Result<(), AllocError> {
-    let at = number_from(tokens, reached.at, message.pos.offset);
+    let at = number_from(tokens, reached.at, message.pos.offset as usize);
     let help = if reached.count < HELPED {
         message_help(sheet.alloc, tokens, messages, message, at)?
     } else {
@@ -103,7 +103,7 @@ fn push_message(
     reached.count = reached.count.saturating_add(1);
     let said = Diagnostic {
         pos: message.pos,
-        length: length_at(tokens, at, message.pos.offset),
+        length: length_at(tokens, at, message.pos.offset as usize),
         severity: message.severity,
         name: Name::Number(message.number),
         text: message.text.as_slice(),

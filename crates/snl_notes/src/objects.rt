@@ -33,7 +33,7 @@ fn push_columns(out: &mut Vec<u8>, column: usize, length: usize) -> Result<(), A
 fn push_place(alloc: Global, out: &mut Vec<u8>, note: Note) -> Result<(), AllocError> {
     out.extend_from_slice(b"{\"file\":")?;
     push_string(alloc, out, note.file)?;
-    push_number(out, b",\"line\":", note.said.pos.line)?;
+    push_number(out, b",\"line\":", note.said.pos.line as usize)?;
     push_columns(out, note.column, note.said.length)
 }
 

@@ -42,7 +42,7 @@ fn push_unless(
     silenced: &[String],
     remark: &Remark,
 ) -> Result<(), AllocError> {
-    let line = remark.token.pos.line;
+    let line = remark.token.pos.line as usize;
     if is_silenced(sheet.alloc, silenced, remark.lint, line)? {
         Ok(())
     } else {

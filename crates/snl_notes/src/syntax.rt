@@ -63,7 +63,7 @@ fn pair_help(before: Kind, kind: Kind) -> Option<&'static [u8]> {
 fn call_help_before(tokens: &[Token], at: usize, line: usize) -> Option<&'static [u8]> {
     for before in (0..at).rev() {
         let token = tokens.get(before)?;
-        if token.pos.line != line {
+        if (token.pos.line as usize) != line {
             return None;
         }
         if let Some(words) = call_help_at(token.text) {
@@ -130,7 +130,7 @@ fn semicolon_help<'a>(before: Token, token: Token) -> Option<Help<'a>> {
     } else if before.pos.line < token.pos.line {
         Some(Help::Counted(
             b"is a ';' missing at the end of line ",
-            before.pos.line,
+            before.pos.line as usize,
             b"?",
         ))
     } else if token.kind == Kind::CloseBrace {
@@ -157,7 +157,7 @@ fn open_help<'a>(tokens: &[Token], at: usize, open: usize) -> Option<Help<'a>> {
         None | Some(Kind::OpenBrace | Kind::Semicolon | Kind::CloseBrace)
     );
     if ends && (token.kind != Kind::OpenBrace || at == tokens.len()) {
-        Some(Help::Counted(unclosed(token.kind), token.pos.line, b""))
+        Some(Help::Counted(unclosed(token.kind), token.pos.line as usize, b""))
     } else {
         None
     }
@@ -184,7 +184,7 @@ fn sign_help<'a>(
     if let Some(words) = pair_help(before.kind, token.kind) {
         return Some(Help::Words(words));
     }
-    if let Some(words) = line_help(tokens, at, token.pos.line) {
+    if let Some(words) = line_help(tokens, at, token.pos.line as usize) {
         return Some(Help::Words(words));
     }
     bracket_help(tokens, at)

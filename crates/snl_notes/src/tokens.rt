@@ -21,7 +21,7 @@ pub fn is_at(tokens: &[Token], at: usize, kind: Kind) -> bool {
 /// The number of the first token, from a number on, that does not stand in front of a byte offset; that of the end where all do.
 pub fn number_from(tokens: &[Token], from: usize, offset: usize) -> usize {
     for at in from..tokens.len() {
-        if tokens[at].pos.offset >= offset {
+        if (tokens[at].pos.offset as usize) >= offset {
             return at;
         }
     }

@@ -78,7 +78,13 @@ fn push_state<'a>(
         ++ spec.state_line form set.entry.text.now number state.entry) }
 {
     match form {
-        OutlineForm::Numbers => push_numbers(set.text, number, state.text, state.pos.line, out),
+        OutlineForm::Numbers => push_numbers(
+            set.text,
+            number,
+            state.text,
+            state.pos.line as usize,
+            out,
+        ),
         OutlineForm::Declarations => push_declaration(set.text, number, state.text, out),
     }
 }

@@ -74,8 +74,8 @@ fn clause_outline(alloc: Global, clause: &Clause) -> Result<ClauseOutline, Alloc
 {
     Ok(ClauseOutline {
         target: Vec::from_slice(alloc, target_name(clause.target))?,
-        line: clause.word.pos.line,
-        offset: clause.word.pos.offset,
+        line: clause.word.pos.line as usize,
+        offset: clause.word.pos.offset as usize,
     })
 }
 
@@ -102,7 +102,7 @@ fn state_outline(alloc: Global, state: &State, is_reached: bool) -> Result<State
     let clauses = clause_outlines(alloc, state.clauses.as_slice())?;
     Ok(StateOutline {
         name,
-        line: state.name.pos.line,
+        line: state.name.pos.line as usize,
         is_reached,
         clauses,
     })
@@ -176,7 +176,7 @@ pub fn outline_of(alloc: Global, program: &Program) -> Result<ProgramOutline, Al
     let sets = set_outlines(alloc, program.state_sets.as_slice())?;
     Ok(ProgramOutline {
         name,
-        line: program.name.pos.line,
+        line: program.name.pos.line as usize,
         sets,
     })
 }

@@ -187,9 +187,9 @@ impl Elements {
     {
         match part.extent {
             Extent::Whole(count) | Extent::Front(count) => {
-                self.note_first(part.variable.offset, count)?;
+                self.note_first(part.variable.offset as usize, count)?;
             }
-            Extent::Element(element) => self.note_element(part.variable.offset, element)?,
+            Extent::Element(element) => self.note_element(part.variable.offset as usize, element)?,
         }
         Ok(())
     }

@@ -60,9 +60,9 @@ fn note_first(firsts: &mut IndexMap<usize, bool>, part: Part) -> Result<(), Allo
     ensures { OnOk result ((v : ℕ) → get nat_eq firsts.new v
         ≡ tests.first_or (get nat_eq firsts.old v) (tests.whole_by v (Some part))) }
 {
-    if !firsts.contains_key(&part.variable.offset) {
+    if !firsts.contains_key(&(part.variable.offset as usize)) {
         let is_whole = matches!(part.extent, Extent::Whole(_));
-        firsts.insert(part.variable.offset, is_whole)?;
+        firsts.insert(part.variable.offset as usize, is_whole)?;
     }
     Ok(())
 }
@@ -98,7 +98,7 @@ fn note_used(used: &mut IndexSet<usize>, site: &Site) -> Result<(), AllocError>
     match site {
         Site::Use { meaning, .. } | Site::Defined { meaning, .. } => match meaning {
             Meaning::Variable(declared, _) | Meaning::Flag(declared) => {
-                used.insert(declared.offset)?;
+                used.insert(declared.offset as usize)?;
             }
             Meaning::Number | Meaning::Nothing => {}
         },
@@ -106,7 +106,7 @@ fn note_used(used: &mut IndexSet<usize>, site: &Site) -> Result<(), AllocError>
             function: Some(function),
             ..
         } => {
-            used.insert(function.offset)?;
+            used.insert(function.offset as usize)?;
         }
         _ => {}
     }

@@ -59,7 +59,7 @@ fn words_of_links(sizes: &IndexMap<usize, u64>, part: Option<Part>) -> u64
     match part {
         Some(part) => {
             let elements = count(part.extent) as u64;
-            let queued = elements.saturating_mul(size_in(sizes, part.variable.offset));
+            let queued = elements.saturating_mul(size_in(sizes, part.variable.offset as usize));
             elements.saturating_add(queued)
         }
         None => 0,

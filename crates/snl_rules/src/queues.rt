@@ -16,7 +16,7 @@ fn queue_of(sort: Sort, part: Option<Part>) -> Option<(usize, u64)>
 {
     match sort {
         Sort::Queue(size) => match part {
-            Some(part) => Some((part.variable.offset, size)),
+            Some(part) => Some((part.variable.offset as usize, size)),
             None => None,
         },
         Sort::Assign | Sort::Monitor | Sort::Sync => None,

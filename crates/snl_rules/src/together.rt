@@ -17,7 +17,7 @@ use std::alloc::AllocError;
 fn overlaps(named: &Elements, part: Part) -> bool
     ensures { result ≡ tests.names_again (spec.named_in named.now) (Some part) }
 {
-    let variable = part.variable.offset;
+    let variable = part.variable.offset as usize;
     match part.extent {
         Extent::Whole(count) | Extent::Front(count) => named.names_below(variable, count),
         Extent::Element(element) => named.names_element(variable, element),
@@ -28,7 +28,7 @@ fn overlaps(named: &Elements, part: Part) -> bool
 fn lacks(named: &Elements, part: Part) -> bool
     ensures { result ≡ tests.lacks_some (spec.named_in named.now) (Some part) }
 {
-    let variable = part.variable.offset;
+    let variable = part.variable.offset as usize;
     match part.extent {
         Extent::Whole(count) | Extent::Front(count) => named.lacks_below(variable, count),
         Extent::Element(element) => !named.names_element(variable, element),
@@ -46,7 +46,7 @@ fn is_array(size: Size) -> bool
 fn is_unassigned(known: &ProgramFacts, part: Part) -> bool
     ensures { result ≡ tests.is_unassigned (spec.known_in known.now) (Some part) }
 {
-    let variable = part.variable.offset;
+    let variable = part.variable.offset as usize;
     match part.extent {
         Extent::Element(element) => !known.assigned.names_element(variable, element),
         Extent::Whole(_) | Extent::Front(_) => !known.assigned.names_some(variable),
@@ -72,10 +72,10 @@ fn is_wrong_definition(
         Sort::Queue(_) => {
             is_wrong
                 || has_subscript
-                || (is_array(size) && known.first_is_whole(declared.offset) == Some(false))
+                || (is_array(size) && known.first_is_whole(declared.offset as usize) == Some(false))
         }
         Sort::Monitor | Sort::Sync => {
-            is_wrong || (has_subscript && known.first_is_whole(declared.offset) == Some(true))
+            is_wrong || (has_subscript && known.first_is_whole(declared.offset as usize) == Some(true))
         }
     }
 }
@@ -153,7 +153,7 @@ fn is_wrong_use(
         Purpose::Ignored | Purpose::Flagged => false,
         Purpose::Channel | Purpose::Queued => match meaning {
             Meaning::Variable(declared, size) => {
-                is_wrong_channel(known, declared.offset, size, has_subscript)
+                is_wrong_channel(known, declared.offset as usize, size, has_subscript)
             }
             _ => false,
         },
@@ -175,7 +175,7 @@ fn is_unassigned_use(known: &ProgramFacts, purpose: Purpose, meaning: Meaning) -
 {
     match (purpose, meaning) {
         (Purpose::Channel | Purpose::Queued, Meaning::Variable(declared, _)) => {
-            !known.assigned.names_some(declared.offset)
+            !known.assigned.names_some(declared.offset as usize)
         }
         _ => false,
     }
@@ -187,7 +187,7 @@ fn is_without_queue(known: &ProgramFacts, purpose: Purpose, meaning: Meaning) ->
 {
     match (purpose, meaning) {
         (Purpose::Queued, Meaning::Variable(declared, _)) => {
-            !known.queued.names_some(declared.offset)
+            !known.queued.names_some(declared.offset as usize)
         }
         _ => false,
     }
@@ -252,7 +252,7 @@ pub fn tell_together(
             } else {
                 Rule::UnusedVariable
             };
-            tell_when(!known.is_used(name.pos.offset), rule, found)?;
+            tell_when(!known.is_used(name.pos.offset as usize), rule, found)?;
         }
         Site::Defined {
             sort,
@@ -278,7 +278,7 @@ pub fn tell_together(
         } => tell_use(known, *purpose, *meaning, *has_subscript, found)?,
         Site::State { .. } => tell_when(is_over(seen.states, 1), Rule::TooManyStates, found)?,
         Site::StateSet { .. } => tell_when(is_over(seen.sets, 1), Rule::TooManySets, found)?,
-        Site::Function { name, .. } => tell_function(seen, known, name.pos.offset, found)?,
+        Site::Function { name, .. } => tell_function(seen, known, name.pos.offset as usize, found)?,
         _ => {}
     }
     Ok(())

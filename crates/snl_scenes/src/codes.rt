@@ -30,14 +30,14 @@ pub(crate) struct ExpressionNames<'n> {
 impl ExpressionNames<'_> {
     /// The variable that a name means.
     pub(crate) fn variable(self, name: Token) -> Option<Variable> {
-        let declared = self.uses.declared(name.pos.offset)?;
-        self.places.variable(declared.offset)
+        let declared = self.uses.declared(name.pos.offset as usize)?;
+        self.places.variable(declared.offset as usize)
     }
 
     /// The event flag that a name means.
     fn flag(self, name: Token) -> Option<usize> {
-        let declared = self.uses.declared(name.pos.offset)?;
-        let number = self.flags.number(declared.offset);
+        let declared = self.uses.declared(name.pos.offset as usize)?;
+        let number = self.flags.number(declared.offset as usize);
         if number < self.flags.len() {
             Some(number)
         } else {
@@ -47,7 +47,7 @@ impl ExpressionNames<'_> {
 
     /// The link that begins at an element of the variable that a name means.
     fn link(self, name: Token, index: usize) -> Option<usize> {
-        let declared = self.uses.declared(name.pos.offset)?;
+        let declared = self.uses.declared(name.pos.offset as usize)?;
         self.links.iter().position(|link| link.variable.offset == declared.offset
             && link.first == index)
     }

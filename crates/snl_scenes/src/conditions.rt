@@ -60,7 +60,7 @@ fn spans_of(alloc: Global, tokens: &[Token], whole: Span) -> Result<Vec<Span>, A
                 let past = whole.first.saturating_add(place);
                 spans.push(Span {
                     past,
-                    end: token.pos.offset,
+                    end: token.pos.offset as usize,
                     ..rest
                 })?;
                 rest.joint = joint;

@@ -23,7 +23,7 @@ fn push_element_value<'a>(
 ) -> Result<(), AllocError> {
     let mut steps = Vec::new(alloc);
     push_steps(expression, names, &mut steps)?;
-    values.insert(bracket.pos.offset, steps)?;
+    values.insert(bracket.pos.offset as usize, steps)?;
     push_values(alloc, index, names, values)
 }
 
@@ -38,7 +38,7 @@ fn push_name_value(
         Some(variable) if variable.size == 1 => {
             let mut steps = Vec::new(alloc);
             steps.push(Step::Word(variable.place))?;
-            values.insert(name.pos.offset, steps)?;
+            values.insert(name.pos.offset as usize, steps)?;
             Ok(())
         }
         _ => Ok(()),

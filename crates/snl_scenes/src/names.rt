@@ -91,7 +91,7 @@ fn variables_in<'p, 'a>(
         let size = variable.size.elements();
         variables.push(VariableNames {
             name: Vec::from_slice(alloc, variable.name.text)?,
-            offset: variable.name.pos.offset,
+            offset: variable.name.pos.offset as usize,
             place,
             size,
         })?;
@@ -108,7 +108,13 @@ fn parts_in<'a>(
     names: ExpressionNames,
 ) -> Result<Vec<Part>, AllocError> {
     match &clause.condition {
-        Some(condition) => parts_of(alloc, condition, source, clause.word.pos.offset, names),
+        Some(condition) => parts_of(
+            alloc,
+            condition,
+            source,
+            clause.word.pos.offset as usize,
+            names,
+        ),
         None => Ok(Vec::new(alloc)),
     }
 }
@@ -124,7 +130,7 @@ fn clauses_in<'a>(
     for clause in &state.clauses {
         let parts = parts_in(alloc, clause, source, names)?;
         clauses.push(ClauseNames {
-            line: clause.word.pos.line,
+            line: clause.word.pos.line as usize,
             parts,
         })?;
     }
@@ -230,14 +236,14 @@ fn variable_name(sets: &[SetNames], offset: usize) -> &[u8] {
 fn is_shared(links: &[Link], offset: usize) -> bool {
     links
         .iter()
-        .filter(|link| link.variable.offset == offset)
+        .filter(|link| (link.variable.offset as usize) == offset)
         .count()
         > 1
 }
 
 /// The element of a link, where its variable has more links.
 fn element_of(link: &Link, links: &[Link]) -> Option<usize> {
-    if is_shared(links, link.variable.offset) {
+    if is_shared(links, link.variable.offset as usize) {
         Some(link.first)
     } else {
         None
@@ -251,12 +257,12 @@ fn link_names(
     links: &[Link],
     sets: &[SetNames],
 ) -> Result<LinkNames, AllocError> {
-    let variable = Vec::from_slice(alloc, variable_name(sets, link.variable.offset))?;
+    let variable = Vec::from_slice(alloc, variable_name(sets, link.variable.offset as usize))?;
     let channel = Vec::from_slice(alloc, link.name.as_slice())?;
     Ok(LinkNames {
         variable,
         element: element_of(link, links),
-        line: link.variable.line,
+        line: link.variable.line as usize,
         channel,
         is_monitored: link.monitored,
         queue: link.queue,

@@ -42,7 +42,7 @@ fn whens_of(alloc: Global, tokens: &[Token]) -> Result<IndexMap<usize, usize>, A
     let mut whens = IndexMap::new(alloc);
     for (number, token) in tokens.iter().enumerate() {
         if matches!(token.kind, Kind::When) {
-            whens.insert(token.pos.offset, number)?;
+            whens.insert(token.pos.offset as usize, number)?;
         }
     }
     Ok(whens)
@@ -91,7 +91,7 @@ impl<'s> Source<'s> {
         let first = number.saturating_add(2);
         let behind = self.tokens.as_slice().get(first..)?;
         let place = closing(behind)?;
-        let end = behind.get(place)?.pos.offset;
+        let end = behind.get(place)?.pos.offset as usize;
         Some(Span {
             joint: Joint::First,
             first,

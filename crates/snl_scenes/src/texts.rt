@@ -33,7 +33,7 @@ struct Begun {
 
 /// Where a token ends.
 fn end_of(token: &Token) -> usize {
-    token.pos.offset.saturating_add(token.text.len())
+    (token.pos.offset as usize).saturating_add(token.text.len())
 }
 
 /// Whether a byte is shown as a blank.
@@ -66,11 +66,11 @@ fn push_between(out: &mut Vec<u8>, between: &[u8], is_first: bool) -> Result<(),
 fn key_of(token: &Token, brackets: &mut Vec<usize>) -> Result<Option<usize>, AllocError> {
     match token.kind {
         Kind::OpenBracket => {
-            brackets.push(token.pos.offset)?;
+            brackets.push(token.pos.offset as usize)?;
             Ok(None)
         }
         Kind::CloseBracket => Ok(brackets.pop()),
-        Kind::Name => Ok(Some(token.pos.offset)),
+        Kind::Name => Ok(Some(token.pos.offset as usize)),
         _ => Ok(None),
     }
 }
@@ -88,7 +88,9 @@ impl Begun {
 
     /// Takes the next token of a source, with the comments in front of it. Answers by which offset the value behind it is found.
     fn take(&mut self, source: &[u8], token: &Token) -> Result<Option<usize>, AllocError> {
-        let between = source.get(self.end..token.pos.offset).unwrap_or(b"");
+        let between = source
+            .get(self.end..token.pos.offset as usize)
+            .unwrap_or(b"");
         push_between(&mut self.text, between, self.pieces.is_empty())?;
         self.text.extend_from_slice(token.text)?;
         self.end = end_of(token);
@@ -128,7 +130,7 @@ pub(crate) fn pieces_of(
     values: &Values,
 ) -> Result<Vec<TextPiece>, AllocError> {
     let tokens = source.tokens(span);
-    let first = tokens.first().map_or(0, |first| first.pos.offset);
+    let first = tokens.first().map_or(0, |first| first.pos.offset as usize);
     let mut begun = Begun::new(alloc, first);
     for token in tokens {
         let key = begun.take(source.text, token)?;

@@ -82,7 +82,7 @@ offset_renamed r text marker None = refl
 offset_renamed r text marker (Some span) = refl
 
 -- a marker sets no line past the limit
-line_renamed : (r : Reading) (text : List ℕ) (marker : Marker) (name : Option Span) → marker.line < 2 ^ 63 → (renamed r text marker name).pos.line < 2 ^ 63 + (r.pos.offset + length text)
+line_renamed : (r : Reading) (text : List ℕ) (marker : Marker) (name : Option Span) → marker.line < 2 ^ 31 → (renamed r text marker name).pos.line < 2 ^ 31 + (r.pos.offset + length text)
 line_renamed r text marker None h = omega arith
 line_renamed r text marker (Some span) h = omega arith
 
@@ -109,8 +109,8 @@ offset_after r text (sort.Marker marker) = offset_renamed r text marker marker.n
 offset_after r text (sort.Token kind) = refl
 
 -- a lexeme leads to no line past the limit
-pub line_after : (r : Reading) (text : List ℕ) (sort : LexemeSort) → r.pos.line < 2 ^ 63 + r.pos.offset → SortFits (length text) sort
-    → (after r text sort).pos.line < 2 ^ 63 + (r.pos.offset + length text)
+pub line_after : (r : Reading) (text : List ℕ) (sort : LexemeSort) → r.pos.line < 2 ^ 31 + r.pos.offset → SortFits (length text) sort
+    → (after r text sort).pos.line < 2 ^ 31 + (r.pos.offset + length text)
 line_after r text sort.Blank h fits = omega arith
 line_after r text sort.LineEnd h fits = omega (arith, count_by-le-length (λ byte. byte == 10) text)
 line_after r text sort.Skipped h fits = omega (arith, count_by-le-length (λ byte. byte == 10) text)
@@ -132,7 +132,7 @@ pub record Reached (source : List ℕ) (r : Reading) : Type 0 where
   pub lexemes : List Lexeme
   pub cut : Cuts nothing_read source lexemes r (drop r.pos.offset source)
   pub within : r.pos.offset ≤ length source
-  pub line : r.pos.line < 2 ^ 63 + r.pos.offset
+  pub line : r.pos.line < 2 ^ 31 + r.pos.offset
   pub files : length r.files ≤ r.pos.offset
 
 -- at the begin nothing is cut

@@ -64,6 +64,14 @@ value_is : (digits : List ℕ) (v : ℕ) → numeral_value 10 digits ≡ Some v 
 unfolding numeral_value
 value_is digits v e = value_step (list_all (λ byte. nat_lt (digit_value byte) 10) digits && nat_lt (digits_value 10 digits) (2 ^ 63)) (digits_value 10 digits) v e
 
+-- the digits of a marker's number make it small
+pub nine_digits : (left : List ℕ) (count v : ℕ) → count ≡ prefix_len is_digit left → count < 10 → numeral_value 10 (take count left) ≡ Some v → v < 2 ^ 31
+nine_digits left count v run few e =
+    let all : list_all is_digit (take count left) ≡ true = ap (λ n. list_all is_digit (take n left)) run ∙ run_is is_digit left in
+    let long : length (take count left) ≡ count = length-take-le count left (omega (arith, run, prefix_len-le-length is_digit left)) in
+    let small : digits_value 10 (take count left) ≤ 999999999 = digits_small 9 (take count left) 0 0 (omega (arith, long, few)) all (omega arith) in
+    omega (arith, value_is (take count left) v e, small)
+
 -- where the number begins, by the parts before it
 record Begun (rest left : List ℕ) : Type 0 where
   pub blanks : List ℕ

@@ -82,9 +82,9 @@ lexeme_at opens_line bytes =
     else (if is_byte (codes "#") first then (if opens_line then directive_at bytes else None)
     else marked_at bytes)))))
 
--- a marker's number is below 2^63, and its name stands in the lexeme
+-- a marker's number is below 2^31, and its name stands in the lexeme
 abbrev pub SortFits : ℕ → LexemeSort → Type 0
-SortFits count (sort.Marker marker) = (marker.line < 2 ^ 63) × IfSome marker.name (λ span. (span.start ≤ span.end) × (span.end ≤ count))
+SortFits count (sort.Marker marker) = (marker.line < 2 ^ 31) × IfSome marker.name (λ span. (span.start ≤ span.end) × (span.end ≤ count))
 SortFits count other = Unit {0}
 
 -- a lexeme of the next bytes, of which there are so many

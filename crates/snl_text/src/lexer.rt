@@ -74,8 +74,8 @@ fn scan<'a>(alloc: Global, source: &'a [u8]) -> Result<Scanner<'a>, LexFault>
     ensures { Scans source.now result }
 {
     let mut scanner = Scanner::new(alloc);
-    while scanner.pos.offset < source.len() {
-        let rest = &source[scanner.pos.offset..];
+    while (scanner.pos.offset as usize) < source.len() {
+        let rest = &source[scanner.pos.offset as usize..];
         let Some(lexeme) = lexeme_at(scanner.opens_line, rest) else {
             return Err(flaw_at(rest).at(scanner.pos));
         };

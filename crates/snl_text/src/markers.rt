@@ -21,7 +21,7 @@ pub struct Span {
 #[derive(Clone, Copy, Debug, PartialEq, Eq)]
 pub struct Marker {
     /// Its number.
-    pub line: usize,
+    pub line: u32,
     /// Where the name of its file stands, without the quotes; None for the same file.
     pub name: Option<Span>,
 }
@@ -86,9 +86,10 @@ fn marker_at(line: &[u8]) -> Option<Marker>
     if count == 0 || count > 9 || !is_parted(line, end) {
         return None;
     }
-    let number = numeral_value(10, &line[start..end])?;
+    let value = numeral_value(10, &line[start..end])?;
+    let number = value as u32;
     Some(Marker {
-        line: number as usize,
+        line: number,
         name: name_at(line, end),
     })
 }

@@ -37,24 +37,24 @@ fn newlines(text: &[u8]) -> usize
 }
 
 /// Notes the name of a file, and answers its number, from 1.
-fn note_name<'a>(files: &mut IndexSet<&'a [u8]>, name: &'a [u8]) -> Result<usize, AllocError>
-    requires { length (map (λ name. name.now) files.old.keys) < 2 ^ 32 }
+fn note_name<'a>(files: &mut IndexSet<&'a [u8]>, name: &'a [u8]) -> Result<u32, AllocError>
+    requires { length (map (λ name. name.now) files.old.keys) < 2 ^ 31 }
     ensures number { IfOk result
         (λ number. number ≡ file_number (map (λ name. name.now) files.old.keys) name.now) }
     ensures names { OnOk result (map (λ name. name.now) files.new.keys
         ≡ with_name (map (λ name. name.now) files.old.keys) name.now) }
 {
     let (index, _) = files.insert_full(name)?;
-    Ok(index + 1)
+    Ok(index as u32 + 1)
 }
 
 /// The place after bytes of the same line.
 fn along(pos: Pos, text: &[u8]) -> Pos
-    requires { pos.offset + length text.now < 2 ^ 64 }
+    requires { pos.offset + length text.now < 2 ^ 32 }
     ensures { result ≡ along pos text.now }
 {
     Pos {
-        offset: pos.offset + text.len(),
+        offset: pos.offset + text.len() as u32,
         file: pos.file,
         line: pos.line,
     }
@@ -62,14 +62,14 @@ fn along(pos: Pos, text: &[u8]) -> Pos
 
 /// The place after bytes that may end lines.
 fn beyond(pos: Pos, text: &[u8]) -> Pos
-    requires offset { pos.offset + length text.now < 2 ^ 64 }
-    requires line { pos.line + length text.now < 2 ^ 64 }
+    requires offset { pos.offset + length text.now < 2 ^ 32 }
+    requires line { pos.line + length text.now < 2 ^ 32 }
     ensures { result ≡ beyond pos text.now }
 {
     Pos {
-        offset: pos.offset + text.len(),
+        offset: pos.offset + text.len() as u32,
         file: pos.file,
-        line: pos.line + newlines(text),
+        line: pos.line + newlines(text) as u32,
     }
 }
 
@@ -95,9 +95,9 @@ impl<'a> Scanner<'a> {
 
     /// Takes a lexeme, of this sort and text. Fails only where memory ends.
     pub fn take(&mut self, sort: LexemeSort, text: &'a [u8]) -> Result<(), AllocError>
-        requires offset { self.old.pos.offset + length text.now < 2 ^ 32 }
-        requires line { self.old.pos.line < 2 ^ 63 + self.old.pos.offset }
-        requires files { length (reading self.old).files < 2 ^ 32 }
+        requires offset { self.old.pos.offset + length text.now < 2 ^ 31 }
+        requires line { self.old.pos.line < 2 ^ 31 + self.old.pos.offset }
+        requires files { length (reading self.old).files < 2 ^ 31 }
         requires fits { SortFits (length text.now) sort }
         ensures { OnOk result (reading self.new ≡ after (reading self.old) text.now sort) }
     {
@@ -120,8 +120,8 @@ impl<'a> Scanner<'a> {
             LexemeSort::Token(kind) => {
                 self.tokens.push(Token {
                     kind,
-                    text,
                     pos: self.pos,
+                    text,
                 })?;
                 self.pos = along(self.pos, text);
                 self.opens_line = false;
@@ -132,8 +132,8 @@ impl<'a> Scanner<'a> {
 
     /// Takes a marker: the next line has its number, in its file or in the same one.
     fn take_marker(&mut self, marker: Marker, text: &'a [u8]) -> Result<(), AllocError>
-        requires offset { self.old.pos.offset + length text.now < 2 ^ 32 }
-        requires files { length (reading self.old).files < 2 ^ 32 }
+        requires offset { self.old.pos.offset + length text.now < 2 ^ 31 }
+        requires files { length (reading self.old).files < 2 ^ 31 }
         requires fits { SortFits (length text.now) (LexemeSort.Marker marker) }
         ensures { OnOk result
             (reading self.new ≡ renamed (reading self.old) text.now marker marker.name) }
@@ -143,7 +143,7 @@ impl<'a> Scanner<'a> {
             None => self.pos.file,
         };
         self.pos = Pos {
-            offset: self.pos.offset + text.len(),
+            offset: self.pos.offset + text.len() as u32,
             file,
             line: marker.line,
         };

@@ -2,24 +2,24 @@
 
 use crate::kinds::Kind;
 
-/// A place in the source.
+/// A place in the source. Its numbers are short, since places stand everywhere in a tree, and a source has its limit.
 #[derive(Clone, Copy, Debug, PartialEq, Eq)]
 pub struct Pos {
     /// Bytes before the place.
-    pub offset: usize,
+    pub offset: u32,
     /// 0 for the file that was read; else the number, from 1, of a name in [`Lexed::files`].
-    pub file: usize,
+    pub file: u32,
     /// Counted from 1; only a newline ends a line.
-    pub line: usize,
+    pub line: u32,
 }
 
 /// One token, with the bytes that spell it.
 #[derive(Clone, Copy, Debug, PartialEq, Eq)]
 pub struct Token<'a> {
     pub kind: Kind,
+    pub pos: Pos,
     /// As spelled, so a string has its quotes.
     pub text: &'a [u8],
-    pub pos: Pos,
 }
 
 /// A source cut into its tokens.

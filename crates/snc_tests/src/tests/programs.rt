@@ -15,7 +15,7 @@ const PRINTS: &[u8] = b"program p option +s; int x; assign x to \"c\"; monitor x
 ss s { state a { when (x) { printf(\"%d\", x); } exit } state b { entry { printf(\"b\"); } when () {} state b } }";
 
 /// The offsets of the first `x`, which declares the variable, and of the one in the condition.
-const DECLARED: usize = 25;
+const DECLARED: u32 = 25;
 
 const USED: usize = 79;
 

@@ -10,12 +10,12 @@ returns-clause-told c =
     let sets = c.in_ok-sets.ensures.told ∙ ap (λ gs. map set_told (map state_set_view gs)) c.as_slice.ensures.value in
     λ j. record { name = c.in_ok-name.ensures.items j; line = (program_view c.args.program.now).name.pos.line; sets = sets j }
 
--- the outline that is answered
-abbrev made : goal.In_ok-sets → ProgramOutline
-made c = record { name = c.in_ok-name.name; line = c.args.program.now.name.pos.line; sets = c.in_ok-sets.sets }
-
 pub returns-clause-shape : goal.returns-clause-shape
-returns-clause-shape c = shape-by (made c) (program_view c.args.program.now) (returns-clause-told c)
+returns-clause-shape c =
+    let made : ProgramOutline = record { name = c.in_ok-name.name; line = c.args.program.now.name.pos.line; sets = c.in_ok-sets.sets } in
+    shape-by made (program_view c.args.program.now) (returns-clause-told c)
 
 pub returns-clause-names : goal.returns-clause-names
-returns-clause-names c = names-by (made c) (program_view c.args.program.now) (returns-clause-told c)
+returns-clause-names c =
+    let made : ProgramOutline = record { name = c.in_ok-name.name; line = c.args.program.now.name.pos.line; sets = c.in_ok-sets.sets } in
+    names-by made (program_view c.args.program.now) (returns-clause-told c)

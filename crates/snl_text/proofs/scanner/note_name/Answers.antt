@@ -5,6 +5,11 @@ use Rattle.snl_text.proofs.Names.{any_name, place_of_name, named}
 use Rattle.std.proofs.lemmas.List.Sums.{prefix_len-le-length}
 use Rattle.snl_text.proofs.scanner.note_name.Goals as goal
 
+pub overflow_cast-result : goal.overflow_cast-result
+overflow_cast-result c =
+    let names = map (λ (y : Bor (List ℕ)). y.now) c.args.files.now.keys in
+    omega (arith, c.in_ok-index.ensures.index, place_of_name c.args.files.now.keys c.args.name.now, prefix_len-le-length (λ name. not (bytes_eq c.args.name.now name)) names)
+
 pub overflow_add-result : goal.overflow_add-result
 overflow_add-result c =
     let names = map (λ (y : Bor (List ℕ)). y.now) c.args.files.now.keys in
