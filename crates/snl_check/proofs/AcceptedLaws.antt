@@ -5,6 +5,7 @@ use Rattle.std.proofs.lemmas.List.Elements.{Contains-append_left, Contains-appen
 use Rattle.snl_syntax.specs.declared.programs.Program.{Program}
 use Rattle.snl_syntax.specs.view.Programs.{program_view}
 use Rattle.snl_names.specs.declared.options.Options.{Options}
+use Rattle.snl_names.specs.Programs.{sites}
 use Rattle.snl_names.specs.UseTables.{IsTableOf}
 use Rattle.snl_messages.specs.declared.messages.Severity.{Severity}
 use Rattle.snl_messages.specs.declared.messages.Severity.TheVariants.{Error, Warning}
@@ -65,6 +66,10 @@ module _ (p : Program) (given : Options) (f : Findings) (found : AreFindings p g
   -- The same of an equal program under the options that are found.
   pub accepted_found : (q : Program) → q ≡ p → has_no_error (map said f.messages.items) ≡ true → IsAccepted f.options q
   accepted_found q same e = subst (λ x. IsAccepted f.options x) (sym same) (subst (λ o. IsAccepted o p) (sym found.options) (accepted_by_warnings e))
+
+  -- The sites that are found are those of an equal program.
+  pub sites_found : (q : Program) → q ≡ p → f.sites.items ≡ sites (program_view q)
+  sites_found q same = subst (λ x. f.sites.items ≡ sites (program_view x)) (sym same) found.sited
 
   -- The table that is found is that of an equal program.
   pub uses_found : (q : Program) → q ≡ p → IsTableOf f.uses (program_view q)

@@ -3,6 +3,7 @@
 ghost use Rattle.std.specs.Prelude.{◌≡◌, ◌↔◌, map, Contains, IfOk, IfSome, IsSome};
 ghost use Rattle.std.proofs.Props.{props};
 ghost use Rattle.snl_syntax.specs.view.Programs.{program_view};
+ghost use Rattle.snl_names.specs.Programs.{sites as sites_in};
 ghost use Rattle.snl_names.specs.UseTables.{IsTableOf};
 ghost use Rattle.snl_names.specs.Uses.{declared_of};
 ghost use Rattle.snl_messages.specs.Messages.{Said, IsInOrder, said};
@@ -13,7 +14,7 @@ ghost use Rattle.snl_check.specs.Waits.{waits};
 
 use crate::findings::{Examined, Findings, examine_owned};
 use snl_messages::Message;
-use snl_resolve::{Options, UseTable};
+use snl_resolve::{Options, Site, UseTable};
 use snl_syntax::Program;
 use snl_text::Pos;
 use std::alloc::{AllocError, Global};
@@ -23,9 +24,12 @@ pub struct Checked<'a> {
     program: Program<'a>,
     /// Those in force.
     options: Options,
+    /// The places of the program that a rule may speak of.
+    sites: Vec<Site<'a>>,
     /// What the names of the program mean.
     uses: UseTable,
     pub ghost accepted: { IsAccepted options program },
+    ghost sited: { sites.items ≡ sites_in (program_view program) },
     ghost bound: { IsTableOf uses (program_view program) } by { Prim.hlevel props },
 }
 
@@ -35,6 +39,7 @@ impl<'a> Drop for Checked<'a> {
         let Checked {
             program: _,
             options: _,
+            sites: _,
             uses: _,
         } = self;
     }
@@ -72,6 +77,14 @@ impl<'a> Checked<'a> {
         ensures { IsTableOf result.now (program_view self.now.program) }
     {
         &self.uses
+    }
+
+    /// The places of the program that a rule may speak of, with what is known there: in the order of the source, but that the
+    /// declared names stand first in their scope.
+    pub fn sites(&self) -> &[Site<'a>]
+        ensures { result.now ≡ sites_in (program_view self.now.program) }
+    {
+        self.sites.as_slice()
     }
 
     /// Whether the program waits for its channels before it starts: every named channel connected,
@@ -117,12 +130,14 @@ pub fn check<'a>(
     let Findings {
         messages,
         options,
+        sites,
         uses,
     } = findings;
     let checked = if is_accepted {
         Some(Checked {
             program,
             options,
+            sites,
             uses,
         })
     } else {

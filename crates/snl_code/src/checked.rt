@@ -9,7 +9,7 @@ ghost use Rattle.snl_flat.specs.Starts.{holds_in, table_of};
 
 use snl_check::Checked;
 use snl_flat::{Code, compile_by, copies_of};
-use snl_resolve::sites_of;
+use snl_meaning::Sites;
 use std::alloc::{AllocError, Global};
 
 /// The code of a checked program. A state that cannot be reached has no code. There are at most as many instructions as the
@@ -24,13 +24,12 @@ pub fn compile(alloc: Global, checked: &Checked) -> Result<Code, AllocError>
         ≤ program_size (holds_in (table_of code)) (program_view checked.now.program)) }
 {
     let program = checked.program();
-    let sites = sites_of(alloc, program)?;
+    let sites = Sites::of(alloc, checked.sites(), checked.uses())?;
     let copies = copies_of(alloc, program)?;
     compile_by(
         alloc,
         program,
-        sites.as_slice(),
-        checked.uses(),
+        &sites,
         copies.places.as_slice(),
         &copies.bodies,
     )

@@ -6,7 +6,6 @@ ghost use Rattle.snl_syntax.specs.view.Shown.{shown, held};
 ghost use Rattle.snl_syntax.specs.view.Statements.{block_view};
 ghost use Rattle.snl_syntax.specs.view.Programs.{state_view, state_set_view, program_view};
 ghost use Rattle.snl_names.specs.Programs as programs;
-ghost use Rattle.snl_names.specs.UseTables.{IsTableOf};
 ghost use Rattle.snl_emit.specs.BlockCode.{block_piece};
 ghost use Rattle.snl_meaning.specs.Names as names;
 ghost use Rattle.snl_flat.specs.Depths.{capped};
@@ -27,7 +26,7 @@ use crate::program_depths::program_depth;
 use crate::starts::StateStarts;
 use snl_meaning::{Instr, Known, Places, Sites, Within};
 use snl_reach::reached_states;
-use snl_resolve::{Numbered, Site, UseTable, variables_of};
+use snl_resolve::{Numbered, Site, variables_of};
 use snl_syntax::{Block, Program, State, StateSet};
 use snl_text::Token;
 use std::alloc::{AllocError, Global};
@@ -301,8 +300,10 @@ fn marked_code<'a>(
     code_of(alloc, program, &common, copies, marks)
 }
 
-/// The code of a program, by its sites, the variables of its copies, and what its functions may name. It owns the marks alone.
-fn sited_code<'a>(
+/// The code of a program, by its sites, the variables of its copies, and what its functions may name. States that cannot be reached
+/// have no code. It has at most as many instructions as the size of the program says, in which such a state counts 0. It owns the
+/// marks alone. The only error is that memory ends.
+pub fn compile_by<'a>(
     alloc: Global,
     program: &Program<'a>,
     sites: &Sites<'_, 'a>,
@@ -320,29 +321,4 @@ fn sited_code<'a>(
 {
     let marks = reached_sets(alloc, program.state_sets.as_slice())?;
     marked_code(alloc, program, sites, marks.as_slice(), copies, bodies)
-}
-
-/// The code of a program, by its sites, the table of what the names in them mean, the variables of its copies, and what its
-/// functions may name. States that cannot be reached have no code. It has at most as many instructions as the size of the program
-/// says, in which such a state counts 0. The only error is that memory ends.
-pub fn compile_by<'s, 'a>(
-    alloc: Global,
-    program: &Program<'a>,
-    sites: &'s [Site<'a>],
-    uses: &'s UseTable,
-    copies: &[Places],
-    bodies: &'s Places,
-) -> Result<Code, AllocError>
-    requires sites { sites.now ≡ programs.sites (program_view program.now) }
-    requires uses { IsTableOf uses.now (program_view program.now) }
-    requires copies { copies.now
-        ≡ heres.placed_sets (program_view program.now) 0 (program_view program.now).state_sets }
-    requires bodies { bodies.now ≡ heres.function_places (program_view program.now) }
-    ensures is { IfOk result (IsCodeOf (program_view program.now)) }
-    ensures inside { IfOk result (IsInside (program_view program.now)) }
-    ensures short { IfOk result (λ code. length code.instrs.items
-        ≤ program_size (holds_in (table_of code)) (program_view program.now)) }
-{
-    let sites = Sites::of(alloc, sites, uses)?;
-    sited_code(alloc, program, &sites, copies, bodies)
 }

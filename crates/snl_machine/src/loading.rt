@@ -8,6 +8,7 @@ use crate::machine::Machine;
 use crate::making::machine_of;
 use snl_channels::Macros;
 use snl_check::Checked;
+use snl_meaning::Sites;
 use std::alloc::{AllocError, Global};
 
 /// What is lent while its machine is made. A function that owns a whole checked program and lends it is dear to prove; one
@@ -30,10 +31,11 @@ fn loaded<'a>(
 ) -> Result<Machine, AllocError>
     ensures { IfOk result (IsLoadedFrom checked.now macros.now.text.now budget) }
 {
+    let sites = Sites::of(alloc, checked.sites(), checked.uses())?;
     machine_of(
         alloc,
         checked.program(),
-        checked.uses(),
+        &sites,
         macros,
         checked.waits(),
         budget,

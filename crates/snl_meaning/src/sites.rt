@@ -135,6 +135,13 @@ impl<'s, 'a> Sites<'s, 'a> {
         self.all
     }
 
+    /// Where the event flags are declared, in bytes, in the order of the source.
+    pub fn flags(&self) -> &Offsets
+        ensures { result.now ≡ spec.flags_of self.now }
+    {
+        &self.flags
+    }
+
     /// Where the name at an offset is declared, in bytes, if it is.
     pub fn declared(&self, offset: usize) -> Option<Pos>
         ensures { result ≡ declared_in offset self.now }

@@ -14,5 +14,5 @@ mod silence;
 
 pub use messages::{Message, Severity};
 pub use refusals::Refusal;
-pub use reports::messages_and_uses;
+pub use reports::messages_by;
 pub use silence::options_in_force;

@@ -3,7 +3,6 @@
 ghost use Rattle.std.specs.Prelude.{◌≡◌, ◌↔◌, ◌⊎◌, true, map, Contains, OnOk, IfOk};
 ghost use Rattle.snl_syntax.specs.view.Programs.{program_view};
 ghost use Rattle.snl_names.specs.Programs as spec;
-ghost use Rattle.snl_names.specs.UseTables.{IsTableOf};
 ghost use Rattle.snl_messages.specs.Findings.{Finding};
 ghost use Rattle.snl_messages.specs.Entries.{finding_in};
 ghost use Rattle.snl_messages.specs.Given.{IsGiven};
@@ -20,7 +19,7 @@ use crate::messages::Message;
 use crate::ordering::in_order;
 use crate::silence::{options_in_force, silence};
 use snl_reach::unreached;
-use snl_resolve::{Options, Site, UseTable, sites_of};
+use snl_resolve::{Options, Site};
 use snl_rules::{Broken, broken_rules, is_overfull, overfull_sets};
 use snl_syntax::Program;
 use snl_text::Token;
@@ -121,8 +120,10 @@ fn given_in_order(
     Ok(messages)
 }
 
-/// All messages of a program that has these sites.
-fn messages_by<'a>(
+/// All messages of a program that has these sites, where these options are given with it: by place, at one place errors before
+/// warnings, and then by number; one for each place and number (SNL Reference; Compiling SNL Programs, "Options"). The only error is
+/// that memory ends.
+pub fn messages_by<'a>(
     alloc: Global,
     program: &Program<'a>,
     sites: &[Site<'a>],
@@ -138,25 +139,4 @@ fn messages_by<'a>(
     let entries = all_findings(alloc, program, sites, options)?;
     let messages = given_in_order(alloc, options, entries)?;
     Ok(messages)
-}
-
-/// All messages of a program, where these options are given with it: by place, at one place errors
-/// before warnings, and then by number; one for each place and number (SNL Reference; Compiling SNL
-/// Programs, "Options"). With them comes what its names mean, since one walk over the program serves
-/// both. The only error is that memory ends.
-pub fn messages_and_uses<'a>(
-    alloc: Global,
-    program: &Program<'a>,
-    given: Options,
-) -> Result<(Vec<Message>, UseTable), AllocError>
-    ensures exactly { IfOk result (λ told. (m : Said) → Contains (map said told.0.items) m
-        ↔ IsSaid given (program_view program.now) program.now.embedded.items
-        program.now.beyond m) }
-    ensures in_order { IfOk result (λ told. IsInOrder (map said told.0.items)) }
-    ensures uses { IfOk result (λ told. IsTableOf told.1 (program_view program.now)) }
-{
-    let sites = sites_of(alloc, program)?;
-    let messages = messages_by(alloc, program, sites.as_slice(), given)?;
-    let uses = UseTable::of(alloc, sites.as_slice())?;
-    Ok((messages, uses))
 }

@@ -2,7 +2,7 @@ use Rattle.std.proofs.Common.{◌≡◌, ◌∙◌, sym, map, true, false, refl}
 use Rattle.std.proofs.lemmas.Bool.{false≢true}
 use Rattle.snl_messages.specs.Messages.{said}
 use Rattle.snl_check.specs.Accepted.{has_no_error}
-use Rattle.snl_check.proofs.AcceptedLaws.{accepted_by_warnings, warnings_by_accepted, accepted_found, uses_found}
+use Rattle.snl_check.proofs.AcceptedLaws.{accepted_by_warnings, warnings_by_accepted, accepted_found, sites_found, uses_found}
 use Rattle.snl_check.proofs.checked.check.Goals as goal
 use Rattle.snl_check.proofs.checked.check.Goals.{then-is_accepted, else-is_accepted}
 
@@ -14,6 +14,7 @@ invariant_of-checked c =
     let all : has_no_error (map said e.findings.messages.items) ≡ true = sym c.are_accepted-is_accepted.ensures ∙ c.if-is_accepted.true in
     record {
       accepted = accepted_found c.args.program c.args.given e.findings found e.program same all;
+      sited = sites_found c.args.program c.args.given e.findings found e.program same;
       bound = uses_found c.args.program c.args.given e.findings found e.program same;
     }
 
