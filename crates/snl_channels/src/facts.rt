@@ -67,7 +67,7 @@ impl Monitored {
         let variable = part.variable.offset as usize;
         match part.extent {
             Extent::Element(element) => {
-                self.singles.insert((variable, element))?;
+                self.singles.insert((variable, element as usize))?;
             }
             Extent::Whole(_) | Extent::Front(_) => {
                 self.wholes.insert(variable)?;
@@ -153,7 +153,13 @@ impl<'a> Syncs<'a> {
         let variable = part.variable.offset as usize;
         match part.extent {
             Extent::Element(element) => {
-                note_single(&self.wholes, &mut self.singles, variable, element, synced)
+                note_single(
+                    &self.wholes,
+                    &mut self.singles,
+                    variable,
+                    element as usize,
+                    synced,
+                )
             }
             Extent::Whole(_) | Extent::Front(_) => note_whole(&mut self.wholes, variable, synced),
         }

@@ -1,6 +1,6 @@
 //! What the definitions of a program say of the elements of its variables.
 
-ghost use Rattle.std.specs.Prelude.{◌≡◌, ◌++◌, map, OnOk, IfOk};
+ghost use Rattle.std.specs.Prelude.{◌≡◌, ◌<◌, ◌^◌, ◌++◌, map, OnOk, IfOk};
 ghost use Rattle.std.specs.List.{flat_map};
 ghost use Rattle.snl_syntax.specs.view.Shown.{shown};
 ghost use Rattle.snl_syntax.specs.view.Definitions.{place_view, flag_view, definition_view};
@@ -38,14 +38,15 @@ pub enum Said<'p, 'a> {
 }
 
 /// The element of an array of so many that a constant names.
-fn element_by(size: usize, constant: Constant) -> Option<usize>
+fn element_by(size: usize, constant: Constant) -> Option<u32>
+    requires { size < 2 ^ 32 }
     ensures { result ≡ element_by size constant }
 {
     let Constant::Worth(number) = constant else {
         return None;
     };
-    match usize::try_from(number) {
-        Ok(element) if element < size => Some(element),
+    match u32::try_from(number) {
+        Ok(element) if (element as usize) < size => Some(element),
         _ => None,
     }
 }
@@ -58,7 +59,7 @@ fn place_part<'a>(place: &Place<'a>, scopes: &Scopes<'_, 'a>) -> Option<Part>
         return None;
     };
     let extent = match &place.subscript {
-        None => Extent::Whole(size.elements()),
+        None => Extent::Whole(size.elements() as u32),
         Some(subscript) => {
             Extent::Element(element_by(size.elements(), constant_of(subscript, scopes))?)
         }

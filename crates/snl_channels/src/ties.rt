@@ -91,8 +91,8 @@ fn push_tie<'s, 'a>(
         ++ spec.tie_of_part facts.now name.entry part channel.entry) }
 {
     let (first, count) = match part.extent {
-        Extent::Whole(count) | Extent::Front(count) => (0, count),
-        Extent::Element(element) => (element, 1),
+        Extent::Whole(count) | Extent::Front(count) => (0, count as usize),
+        Extent::Element(element) => (element as usize, 1),
     };
     ties.push(tie_of(facts, name, part, first, count, channel))?;
     Ok(())

@@ -73,7 +73,7 @@ fn size_by(constant: Constant) -> Size
             Ok(0) | Err(_) => Size::Wrong,
             Ok(count) => {
                 if count <= 1024 {
-                    Size::Array(count)
+                    Size::Array(count as u32)
                 } else {
                     Size::TooLong
                 }
@@ -159,7 +159,7 @@ fn misses(size: Size, number: i64) -> bool
     ensures { result ≡ spec.misses size number }
 {
     match size {
-        Size::Array(count) => is_outside(count, number),
+        Size::Array(count) => is_outside(count as usize, number),
         _ => false,
     }
 }

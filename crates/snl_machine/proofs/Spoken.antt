@@ -193,7 +193,7 @@ module _ (p : ProgramTree) (queue : ℕ → ℕ) where
   module _ (h : List ℕ → Bool) (word t : Token) (rest : List Site) where
     -- the site of an `assign`
     abbrev site-of : Meaning → Option ExprTree → Option ChannelsTree → Site
-    site-of m sub c = Defined Assign word t m (is_some sub) (is_wrong_part h m sub (listed_names c)) (part_of h m sub (listed_names c))
+    site-of m sub c = Defined Assign word.pos t m (is_some sub) (is_wrong_part h m sub (listed_names c)) (part_of h m sub (listed_names c))
 
     -- what it says
     abbrev says : Meaning → Option ExprTree → Option ChannelsTree → List Said
@@ -216,12 +216,12 @@ module _ (p : ProgramTree) (queue : ℕ → ℕ) where
     element-names : (d : Pos) (size : Size) (e : ExprTree) (k : ℕ) → k < elements size → (to : Bool) (names : NamesTree) → IsMeant (Variable d size) →
         let c : Option ChannelsTree = Some (record { to = to; names = names }) in
         Fits (assigned t (record { variable = d; extent = Element k }) c ∷ [])
-        (Defined Assign word t (Variable d size) true (is_wrong_part h (Variable d size) (Some e) (listed_names c)) (Some (record { variable = d; extent = Element k })) ∷ rest)
+        (Defined Assign word.pos t (Variable d size) true (is_wrong_part h (Variable d size) (Some e) (listed_names c)) (Some (record { variable = d; extent = Element k })) ∷ rest)
     element-names d size e k within to (one_name x) w =
         let long = ap elements w.3 in
         let c : Option ChannelsTree = Some (record { to = to; names = one_name x }) in
         one-part t (record { variable = d; extent = Element k }) c
-        (Defined Assign word t (Variable d size) true (is_wrong_part h (Variable d size) (Some e) (listed_names c)) (Some (record { variable = d; extent = Element k }))) rest w.0 w.1 w.2
+        (Defined Assign word.pos t (Variable d size) true (is_wrong_part h (Variable d size) (Some e) (listed_names c)) (Some (record { variable = d; extent = Element k }))) rest w.0 w.1 w.2
         (omega (arith, long, within)) (omega arith)
     element-names d size e k within to (name_list xs) w = λ fine.
         let list = (or-false (is_wrong_subscript h size (Some e)) (not (is_array size) || true || nat_lt (elements size) (length xs)) fine.0).1 in
@@ -229,13 +229,13 @@ module _ (p : ProgramTree) (queue : ℕ → ℕ) where
 
     -- one element, if the subscript names one
     element-says : (d : Pos) (size : Size) (e : ExprTree) (c : Option ChannelsTree) (o : Option ℕ) → element_at h size e ≡ o → IsMeant (Variable d size) →
-        Fits (of_part (λ x. assigned t x c) (one_element d o)) (Defined Assign word t (Variable d size) true (is_wrong_part h (Variable d size) (Some e) (listed_names c)) (one_element d o) ∷ rest)
+        Fits (of_part (λ x. assigned t x c) (one_element d o)) (Defined Assign word.pos t (Variable d size) true (is_wrong_part h (Variable d size) (Some e) (listed_names c)) (one_element d o) ∷ rest)
     element-says d size e c None is w = λ fine. (omega arith, tt)
     element-says d size e None (Some k) is w =
         let long = ap elements w.3 in
         let within = element-within (elements size) (constant_of h e) k is in
         one-part t (record { variable = d; extent = Element k }) None
-        (Defined Assign word t (Variable d size) true (is_wrong_part h (Variable d size) (Some e) None) (Some (record { variable = d; extent = Element k }))) rest w.0 w.1 w.2
+        (Defined Assign word.pos t (Variable d size) true (is_wrong_part h (Variable d size) (Some e) None) (Some (record { variable = d; extent = Element k }))) rest w.0 w.1 w.2
         (omega (arith, long, within)) (omega arith)
     element-says d size e (Some c) (Some k) is w = element-names d size e k (element-within (elements size) (constant_of h e) k is) c.to c.names w
 

@@ -61,7 +61,7 @@ abbrev pub LimitExamples : Type 0
 LimitExamples =
     Says TooManySets (StateSet (at 3 (codes "ss")) (at 6 (codes "x")) false) Error 4 (codes "limit passed: 64 state sets") 3
     × Says TooManyStates (State (at 3 (codes "state")) (at 9 (codes "x")) false true) Error 4 (codes "limit passed: 1024 states") 3
-    × Says TooManyChannels (Defined Assign (at 3 (codes "assign")) (at 10 (codes "x")) Nothing false false None) Error 4 (codes "limit passed: 1024 channels") 3
+    × Says TooManyChannels (Defined Assign (at 3 (codes "assign")).pos (at 10 (codes "x")) Nothing false false None) Error 4 (codes "limit passed: 1024 channels") 3
     × Says TooManyElements (Declarator (at 7 (codes "x")) TooLong true) Error 4 (codes "limit passed: 1024 elements") 7
     × Says TooManyFunctions (Function (at 7 (codes "f")) false) Error 4 (codes "limit passed: 256 functions") 7
 
@@ -78,14 +78,14 @@ EarlyErrors =
     × Says UnknownFunction call_of Error 16 (codes "unknown function 'f'") 7
     × Says WrongArguments call_of Error 17 (codes "wrong arguments for 'f'") 7
     × Says DelayElsewhere (Call (at 7 (codes "delay")) true true false true None) Error 18 (codes "delay is only allowed in a when condition") 7
-    × Says AssignedTwice (Defined Assign (at 3 (codes "assign")) (at 10 (codes "x")) Nothing false false None) Error 19 (codes "'x' is assigned twice") 10
+    × Says AssignedTwice (Defined Assign (at 3 (codes "assign")).pos (at 10 (codes "x")) Nothing false false None) Error 19 (codes "'x' is assigned twice") 10
     × Says Unassigned (use_of Nothing) Error 20 (codes "'x' is not assigned") 7
 
 -- E21 to E35.
 abbrev pub LateErrors : Type 0
 LateErrors =
     Says NoFlag (use_of Nothing) Error 21 (codes "'x' is not an event flag") 7
-    × Says SyncedTwice (Defined Sync (at 8 (codes "x")) (at 8 (codes "x")) Nothing false false None) Error 22 (codes "'x' is synced twice") 8
+    × Says SyncedTwice (Defined Sync (at 8 (codes "x")).pos (at 8 (codes "x")) Nothing false false None) Error 22 (codes "'x' is synced twice") 8
     × Says NoQueue (use_of Nothing) Error 23 (codes "'x' has no queue") 7
     × Says StateTwice (State (at 3 (codes "state")) (at 9 (codes "x")) true true) Error 24 (codes "state 'x' is defined twice") 9
     × Says StateSetTwice (StateSet (at 3 (codes "ss")) (at 6 (codes "x")) true) Error 24 (codes "state set 'x' is defined twice") 6
@@ -105,7 +105,7 @@ LateErrors =
 abbrev pub Warnings : Type 0
 Warnings =
     Says NeverReached (Clause (at 7 (codes "when")) true) Warning 3 (codes "clause is never reached") 7
-    × Says NotMonitored (Defined Sync (at 8 (codes "x")) (at 8 (codes "x")) Nothing false false None) Warning 4 (codes "'x' is synced but not monitored") 8
+    × Says NotMonitored (Defined Sync (at 8 (codes "x")).pos (at 8 (codes "x")) Nothing false false None) Warning 4 (codes "'x' is synced but not monitored") 8
     × Says UnusedVariable (Declaration (at 7 (codes "x")) false false 1) Warning 5 (codes "variable 'x' is not used") 7
     × Says UnusedFlag (Declaration (at 7 (codes "x")) true false 0) Warning 6 (codes "event flag 'x' is not used") 7
     × Says NoClauses (State (at 3 (codes "state")) (at 9 (codes "x")) false false) Warning 7 (codes "state 'x' has no clauses") 9

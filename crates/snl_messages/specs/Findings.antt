@@ -49,19 +49,19 @@ token_of (Clause t blocked) = t
 token_of (State word t later clauses) = t
 token_of (StateSet word t later) = t
 
--- The word with which a definition, a state or a state set begins.
-abbrev pub word_of : Site → Token
-word_of (Defined sort word t m sub wrong part) = word
-word_of (State word t later clauses) = word
-word_of (StateSet word t later) = word
-word_of s = token_of s
+-- Where the word stands with which a definition, a state or a state set begins.
+abbrev pub word_place : Site → Pos
+word_place (Defined sort word t m sub wrong part) = word
+word_place (State word t later clauses) = word.pos
+word_place (StateSet word t later) = word.pos
+word_place s = (token_of s).pos
 
 -- Where a rule's message stands: the limits of state sets, states and channels at the first word, all others at the token.
-abbrev pub marked_token : Rule → Site → Token
-marked_token TooManySets s = word_of s
-marked_token TooManyStates s = word_of s
-marked_token TooManyChannels s = word_of s
-marked_token rule s = token_of s
+abbrev pub marked_place : Rule → Site → Pos
+marked_place TooManySets s = word_place s
+marked_place TooManyStates s = word_place s
+marked_place TooManyChannels s = word_place s
+marked_place rule s = (token_of s).pos
 
 -- The words of a type, with one space between them.
 abbrev pub words_of : Token → Option Token → List ℕ
@@ -81,7 +81,7 @@ quote_of s = (token_of s).text.now
 
 -- What a rule says at a site that breaks it.
 abbrev pub found_at : Rule → Site → Finding
-found_at rule s = finding (AtSite rule) (marked_token rule s).pos (quote_of s)
+found_at rule s = finding (AtSite rule) (marked_place rule s) (quote_of s)
 
 -- Its message.
 abbrev pub said_at : Rule → Site → Said

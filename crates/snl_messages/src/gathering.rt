@@ -7,7 +7,7 @@ ghost use Rattle.snl_messages.specs.Lists as spec;
 
 use crate::entries::{Entry, note};
 use crate::matters::Matter;
-use crate::places::{marked_token, quote_of};
+use crate::places::{marked_place, quote_of};
 use snl_rules::Broken;
 use snl_text::{Pos, Token};
 use std::alloc::{AllocError, Global};
@@ -18,11 +18,11 @@ fn note_broken(alloc: Global, broken: Broken, entries: &mut Vec<Entry>) -> Resul
         ≡ map finding_in entries.old.items ++ of_broken broken.entry ∷ []) }
 {
     let quote = quote_of(alloc, broken.site)?;
-    let place = marked_token(broken.rule, broken.site);
+    let place = marked_place(broken.rule, broken.site);
     note(
         alloc,
         Matter::AtSite(broken.rule),
-        place.pos,
+        place,
         quote.as_slice(),
         entries,
     )

@@ -5,7 +5,7 @@ ghost use Rattle.snl_messages.specs.Findings as spec;
 
 use snl_resolve::Site;
 use snl_rules::Rule;
-use snl_text::Token;
+use snl_text::{Pos, Token};
 use std::alloc::{AllocError, Global};
 
 /// The token at which the messages of a site stand, but for some limits.
@@ -34,23 +34,24 @@ fn token_of<'a>(site: Site<'a>) -> Token<'a>
     }
 }
 
-/// The word with which a definition, a state or a state set begins.
-fn word_of<'a>(site: Site<'a>) -> Token<'a>
-    ensures { result ≡ spec.word_of site.entry }
+/// Where the word stands with which a definition, a state or a state set begins.
+fn word_place(site: Site) -> Pos
+    ensures { result ≡ spec.word_place site.entry }
 {
     match site {
-        Site::Defined { word, .. } | Site::State { word, .. } | Site::StateSet { word, .. } => word,
-        _ => token_of(site),
+        Site::Defined { word, .. } => word,
+        Site::State { word, .. } | Site::StateSet { word, .. } => word.pos,
+        _ => token_of(site).pos,
     }
 }
 
-/// The token at which a rule's message stands at a site.
-pub fn marked_token<'a>(rule: Rule, site: Site<'a>) -> Token<'a>
-    ensures { result ≡ spec.marked_token rule site.entry }
+/// Where a rule's message stands at a site.
+pub fn marked_place(rule: Rule, site: Site) -> Pos
+    ensures { result ≡ spec.marked_place rule site.entry }
 {
     match rule {
-        Rule::TooManySets | Rule::TooManyStates | Rule::TooManyChannels => word_of(site),
-        _ => token_of(site),
+        Rule::TooManySets | Rule::TooManyStates | Rule::TooManyChannels => word_place(site),
+        _ => token_of(site).pos,
     }
 }
 

@@ -33,7 +33,7 @@ use Rattle.snl_names.specs.Sites.{declares, at_type, in_declaration, in_expressi
 -- What an `assign`, `monitor`, `sync` or `syncQ` says of its place, beside the length of its list of channels.
 abbrev pub at_defined : Sort → Token → Sight → PlaceTree → Option ℕ → Site
 at_defined sort word s p list =
-    Defined sort word p.name (meaning s.scopes p.name) (is_some p.subscript) (is_wrong_part (is_hidden s.scopes) (meaning s.scopes p.name) p.subscript list)
+    Defined sort word.pos p.name (meaning s.scopes p.name) (is_some p.subscript) (is_wrong_part (is_hidden s.scopes) (meaning s.scopes p.name) p.subscript list)
     (part_of (is_hidden s.scopes) (meaning s.scopes p.name) p.subscript list)
 
 -- The same with its subscript.

@@ -1,6 +1,6 @@
 //! Scopes as tables of names, one in another, and what a name means there.
 
-ghost use Rattle.std.specs.Prelude.{◌≡◌, ℕ, List, [], ◌∷◌, ◌++◌, is_some, map, OnOk, IfOk};
+ghost use Rattle.std.specs.Prelude.{◌≡◌, ◌<◌, ◌^◌, ℕ, List, [], ◌∷◌, ◌++◌, is_some, map, OnOk, IfOk};
 ghost use Rattle.snl_names.specs.declared.scopes.Declared.{Declared};
 ghost use Rattle.snl_names.specs.Scopes as spec;
 ghost use Rattle.snl_names.specs.Chains.{scopes_of};
@@ -43,11 +43,12 @@ impl Size {
 
     /// How many elements the variable has; an array whose size is refused counts as one of 1,024.
     pub fn elements(self) -> usize
-        ensures { result ≡ spec.elements self }
+        ensures value { result ≡ spec.elements self }
+        ensures within { result < 2 ^ 32 }
     {
         match self {
             Size::Scalar => 1,
-            Size::Array(count) => count,
+            Size::Array(count) => count as usize,
             Size::TooLong | Size::Wrong => 1024,
         }
     }

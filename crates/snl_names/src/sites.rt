@@ -11,7 +11,7 @@ pub enum Size {
     /// It has none.
     Scalar,
     /// 1 to 1,024 elements.
-    Array(usize),
+    Array(u32),
     /// A constant above 1,024.
     TooLong,
     /// More than one dimension, or a size that is no constant, faults or is below 1.
@@ -56,11 +56,11 @@ pub enum Purpose {
 #[derive(Clone, Copy)]
 pub enum Extent {
     /// All of so many, by one name.
-    Whole(usize),
+    Whole(u32),
     /// The first ones, so many, by a channel each.
-    Front(usize),
+    Front(u32),
     /// One, by its number from 0 on.
-    Element(usize),
+    Element(u32),
 }
 
 /// The elements of a variable that a definition names.
@@ -113,10 +113,10 @@ pub enum Site<'a> {
     },
     /// An `assign`, `monitor`, `sync` or `syncQ`. `is_wrong` tells whether its subscript or its
     /// list of channels is wrong by itself, `part` which elements it names. The word of a `monitor`
-    /// or a `sync` is its name.
+    /// or a `sync` is its name; of a word the place is enough, and it keeps a row of sites short.
     Defined {
         sort: Sort,
-        word: Token<'a>,
+        word: Pos,
         name: Token<'a>,
         meaning: Meaning,
         has_subscript: bool,

@@ -19,7 +19,7 @@ fn size_by(constant: Constant) -> Size
             Ok(0) | Err(_) => Size::Wrong,
             Ok(count) => {
                 if count <= 1024 {
-                    Size::Array(count)
+                    Size::Array(count as u32)
                 } else {
                     Size::TooLong
                 }

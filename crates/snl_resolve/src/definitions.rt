@@ -34,7 +34,7 @@ fn defined_site<'a>(
     let meaning = sight.scopes.meaning(place.name);
     Site::Defined {
         sort,
-        word,
+        word: word.pos,
         name: place.name,
         meaning,
         has_subscript: place.subscript.is_some(),

@@ -1,6 +1,6 @@
 //! The elements of a variable that an `assign`, `monitor`, `sync` or `syncQ` names.
 
-ghost use Rattle.std.specs.Prelude.{◌≡◌};
+ghost use Rattle.std.specs.Prelude.{◌≡◌, ◌<◌, ◌^◌};
 ghost use Rattle.snl_syntax.specs.view.Shown.{shown};
 ghost use Rattle.snl_syntax.specs.view.Expressions.{boxed, view};
 ghost use Rattle.snl_syntax.specs.view.Definitions.{channels_view};
@@ -28,12 +28,19 @@ pub fn listed_names(channels: &Option<Channels>) -> Option<usize>
 }
 
 /// The element of an array of so many that a constant names.
-fn element_by(size: usize, constant: Constant) -> Option<usize>
+fn element_by(size: usize, constant: Constant) -> Option<u32>
+    requires { size < 2 ^ 32 }
     ensures { result ≡ spec.element_by size constant }
 {
     match constant {
-        Constant::Worth(number) => match usize::try_from(number) {
-            Ok(element) => { if element < size { Some(element) } else { None } }
+        Constant::Worth(number) => match u32::try_from(number) {
+            Ok(element) => {
+                if (element as usize) < size {
+                    Some(element)
+                } else {
+                    None
+                }
+            }
             Err(_) => None,
         },
         _ => None,
@@ -41,7 +48,7 @@ fn element_by(size: usize, constant: Constant) -> Option<usize>
 }
 
 /// The element that a subscript names, if it is constant, does not fault and is in range.
-fn element_at<'a>(subscript: &Expr<'a>, scopes: &Scopes<'_, 'a>, size: Size) -> Option<usize>
+fn element_at<'a>(subscript: &Expr<'a>, scopes: &Scopes<'_, 'a>, size: Size) -> Option<u32>
     ensures { result ≡ spec.element_at (is_hidden (scopes_of scopes.now)) size
         (view subscript.now) }
 {
@@ -49,7 +56,7 @@ fn element_at<'a>(subscript: &Expr<'a>, scopes: &Scopes<'_, 'a>, size: Size) -> 
 }
 
 /// A part of one element, if there is one.
-fn one_element(variable: Pos, element: Option<usize>) -> Option<Part>
+fn one_element(variable: Pos, element: Option<u32>) -> Option<Part>
     ensures { result ≡ spec.one_element variable element }
 {
     match element {
@@ -66,8 +73,8 @@ fn all_elements(variable: Pos, size: Size, list: Option<usize>) -> Part
     ensures { result ≡ spec.all_elements variable size list }
 {
     let extent = match list {
-        None => Extent::Whole(size.elements()),
-        Some(count) => Extent::Front(count.min(size.elements())),
+        None => Extent::Whole(size.elements() as u32),
+        Some(count) => Extent::Front(count.min(size.elements()) as u32),
     };
     Part { variable, extent }
 }

@@ -32,15 +32,15 @@ array = Variable (at 4) (Array 3)
 
 -- a definition of all of it or of its first elements, and of one element
 abbrev pub all_of : Sort → Extent → Site
-all_of sort extent = Defined sort (name 20) (name 20) array false false (Some (record { variable = at 4; extent = extent }))
+all_of sort extent = Defined sort (name 20).pos (name 20) array false false (Some (record { variable = at 4; extent = extent }))
 
 -- a definition of one element
 abbrev pub one_of : Sort → ℕ → Site
-one_of sort k = Defined sort (name 20) (name 20) array true false (Some (record { variable = at 4; extent = Element k }))
+one_of sort k = Defined sort (name 20).pos (name 20) array true false (Some (record { variable = at 4; extent = Element k }))
 
 -- the same with a subscript that is no constant
 abbrev pub wrong_one : Sort → Site
-wrong_one sort = Defined sort (name 20) (name 20) array true true None
+wrong_one sort = Defined sort (name 20).pos (name 20) array true true None
 
 -- a name in an expression
 abbrev pub named_for : Purpose → Meaning → Bool → Site

@@ -114,7 +114,7 @@ two_sets = record {
 -- A definition of elements of the variable that is declared at an offset.
 abbrev pub definition_of : Sort → ℕ → Extent → Site
 definition_of sort variable extent =
-    Defined sort (sign kind.Assign) (name 0 (codes "x")) Nothing false false
+    Defined sort (sign kind.Assign).pos (name 0 (codes "x")) Nothing false false
     (Some (record { variable = record { offset = variable; file = 0; line = 1 }; extent = extent }))
 
 -- The program's variables count in each state set, its blocks in the first alone. A link takes the words of its buffer

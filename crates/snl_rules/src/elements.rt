@@ -187,9 +187,11 @@ impl Elements {
     {
         match part.extent {
             Extent::Whole(count) | Extent::Front(count) => {
-                self.note_first(part.variable.offset as usize, count)?;
+                self.note_first(part.variable.offset as usize, count as usize)?;
             }
-            Extent::Element(element) => self.note_element(part.variable.offset as usize, element)?,
+            Extent::Element(element) => {
+                self.note_element(part.variable.offset as usize, element as usize)?;
+            }
         }
         Ok(())
     }

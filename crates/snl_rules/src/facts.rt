@@ -204,7 +204,7 @@ pub fn channels_at(site: &Site) -> usize
     match part_at(Naming::Assigning, site) {
         None => 0,
         Some(part) => match part.extent {
-            Extent::Front(count) => count,
+            Extent::Front(count) => count as usize,
             Extent::Whole(_) | Extent::Element(_) => 1,
         },
     }

@@ -16,8 +16,8 @@ fn count(extent: Extent) -> usize
     ensures { result ≡ spec.count extent }
 {
     match extent {
-        Extent::Whole(count) => count,
-        Extent::Front(count) => count,
+        Extent::Whole(count) => count as usize,
+        Extent::Front(count) => count as usize,
         Extent::Element(_) => 1,
     }
 }

@@ -19,8 +19,8 @@ fn overlaps(named: &Elements, part: Part) -> bool
 {
     let variable = part.variable.offset as usize;
     match part.extent {
-        Extent::Whole(count) | Extent::Front(count) => named.names_below(variable, count),
-        Extent::Element(element) => named.names_element(variable, element),
+        Extent::Whole(count) | Extent::Front(count) => named.names_below(variable, count as usize),
+        Extent::Element(element) => named.names_element(variable, element as usize),
     }
 }
 
@@ -30,8 +30,8 @@ fn lacks(named: &Elements, part: Part) -> bool
 {
     let variable = part.variable.offset as usize;
     match part.extent {
-        Extent::Whole(count) | Extent::Front(count) => named.lacks_below(variable, count),
-        Extent::Element(element) => !named.names_element(variable, element),
+        Extent::Whole(count) | Extent::Front(count) => named.lacks_below(variable, count as usize),
+        Extent::Element(element) => !named.names_element(variable, element as usize),
     }
 }
 
@@ -48,7 +48,7 @@ fn is_unassigned(known: &ProgramFacts, part: Part) -> bool
 {
     let variable = part.variable.offset as usize;
     match part.extent {
-        Extent::Element(element) => !known.assigned.names_element(variable, element),
+        Extent::Element(element) => !known.assigned.names_element(variable, element as usize),
         Extent::Whole(_) | Extent::Front(_) => !known.assigned.names_some(variable),
     }
 }
@@ -75,7 +75,8 @@ fn is_wrong_definition(
                 || (is_array(size) && known.first_is_whole(declared.offset as usize) == Some(false))
         }
         Sort::Monitor | Sort::Sync => {
-            is_wrong || (has_subscript && known.first_is_whole(declared.offset as usize) == Some(true))
+            is_wrong
+                || (has_subscript && known.first_is_whole(declared.offset as usize) == Some(true))
         }
     }
 }

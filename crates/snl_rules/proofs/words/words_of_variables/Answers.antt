@@ -10,7 +10,7 @@ loop-variable-preserved c =
     count_step (λ k v. variable_words (variable_view v)) (λ k l. sum_by variable_words (map variable_view l)) (λ k x xs. sum_by-cons variable_words (variable_view x) (map variable_view xs))
     c.args.held.now c.loop-variable.variable-index c.variable-item.result (2 ^ 64 - 1) c.loop-variable.words c.saturating_add-words.result _
     c.loop-variable-test.true c.variable-item.is c.loop-variable.invariant.1
-    (c.saturating_add-words.ensures ∙ ap (λ n. min (c.loop-variable.words + n) (2 ^ 64 - 1)) c.elements.ensures)
+    (c.saturating_add-words.ensures ∙ ap (λ n. min (c.loop-variable.words + n) (2 ^ 64 - 1)) c.elements.ensures.value)
 
 pub returns : goal.returns
 returns c =
