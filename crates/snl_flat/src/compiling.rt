@@ -250,7 +250,7 @@ fn code_of<'a>(
 {
     let definitions = program.definitions.as_slice();
     let sets = program.state_sets.as_slice();
-    let mut instrs = Vec::new(alloc);
+    let mut instrs = Vec::with_capacity(alloc, program.token_count / 2)?;
     let functions = lay_functions(alloc, definitions, common, &mut instrs)?;
     let entry = lay_own(alloc, program, common, &program.entry, &mut instrs)?;
     let sets = lay_sets(alloc, program, common, copies, marks, sets, &mut instrs)?;

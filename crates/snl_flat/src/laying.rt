@@ -17,6 +17,9 @@ use snl_meaning::{Instr, Known};
 use snl_syntax::{Block, Clause, Expr, State};
 use std::alloc::{AllocError, Global};
 
+/// For how many instructions a piece has room before it grows: most pieces have fewer.
+const PIECE_ROOM: usize = 32;
+
 /// Adds code that was made from its end. Fails only where memory ends.
 pub fn add_reversed(code: &mut Vec<Instr>, made: &[Instr]) -> Result<(), AllocError>
     ensures { OnOk result (code.new.items ≡ code.old.items ++ reverse made.now) }
@@ -37,7 +40,7 @@ fn add_condition<'a>(
     ensures { OnOk result (code.new.items
         ≡ code.old.items ++ condition_piece (here_of known.now) (view condition.now)) }
 {
-    let mut made = Vec::new(alloc);
+    let mut made = Vec::with_capacity(alloc, PIECE_ROOM)?;
     made.push(Instr::End)?;
     emit_expression(condition, known, &mut made)?;
     add_reversed(code, made.as_slice())
@@ -53,7 +56,7 @@ fn add_block<'a>(
     ensures { OnOk result (code.new.items
         ≡ code.old.items ++ block_piece (here_of known.now) (block_view block.now)) }
 {
-    let mut made = Vec::new(alloc);
+    let mut made = Vec::with_capacity(alloc, PIECE_ROOM)?;
     made.push(Instr::End)?;
     emit_block(block, known, &mut made)?;
     add_reversed(code, made.as_slice())

@@ -40,13 +40,13 @@ returns-clause-is c =
     let sets = map state_set_view c.as_slice-sets.result.now in
     let are = ap (map state_set_view) c.as_slice-sets.ensures.value in
     let definitions = map definition_view c.as_slice-definitions.result.now in
-    let before = c.new-instrs.result.items in
+    let before = c.in_ok-instrs.instrs.items in
     let placed = c.lay_functions.new.code.items in
     let front : placed ≡ routines_code p =
-    routines-are p before placed c.args.common.now.sites.now c.args.common.now.bodies.now definitions c.new-instrs.ensures.items c.requires.sites c.requires.bodies
+    routines-are p before placed c.args.common.now.sites.now c.args.common.now.bodies.now definitions c.in_ok-instrs.ensures.items c.requires.sites c.requires.bodies
     (ap (map definition_view) c.as_slice-definitions.ensures.value) c.in_ok-functions.ensures.code in
     let found : entries_of code ≡ entries_in p =
-    entries-are p before (entries_of code) c.args.common.now.sites.now c.args.common.now.bodies.now definitions c.new-instrs.ensures.items c.requires.sites c.requires.bodies
+    entries-are p before (entries_of code) c.args.common.now.sites.now c.args.common.now.bodies.now definitions c.in_ok-instrs.ensures.items c.requires.sites c.requires.bodies
     (ap (map definition_view) c.as_slice-definitions.ensures.value) c.in_ok-functions.ensures.entries in
     code-made p reached code (tells-reached p c.args.marks.now c.requires.marks) (conditions-apart p reached)
     (code-is p reached placed c.lay_own.new.code.items c.lay_sets.new.code.items c.lay_own-2.new.code.items sets are front
@@ -71,13 +71,13 @@ returns-clause-inside c =
     let sets = map state_set_view c.as_slice-sets.result.now in
     let are = ap (map state_set_view) c.as_slice-sets.ensures.value in
     let definitions = map definition_view c.as_slice-definitions.result.now in
-    let before = c.new-instrs.result.items in
+    let before = c.in_ok-instrs.instrs.items in
     let placed = c.lay_functions.new.code.items in
     let front : placed ≡ routines_code p =
-    routines-are p before placed c.args.common.now.sites.now c.args.common.now.bodies.now definitions c.new-instrs.ensures.items c.requires.sites c.requires.bodies
+    routines-are p before placed c.args.common.now.sites.now c.args.common.now.bodies.now definitions c.in_ok-instrs.ensures.items c.requires.sites c.requires.bodies
     (ap (map definition_view) c.as_slice-definitions.ensures.value) c.in_ok-functions.ensures.code in
     let found : entries_of code ≡ entries_in p =
-    entries-are p before (entries_of code) c.args.common.now.sites.now c.args.common.now.bodies.now definitions c.new-instrs.ensures.items c.requires.sites c.requires.bodies
+    entries-are p before (entries_of code) c.args.common.now.sites.now c.args.common.now.bodies.now definitions c.in_ok-instrs.ensures.items c.requires.sites c.requires.bodies
     (ap (map definition_view) c.as_slice-definitions.ensures.value) c.in_ok-functions.ensures.entries in
     code-inside p reached code
     (code-is p reached placed c.lay_own.new.code.items c.lay_sets.new.code.items c.lay_own-2.new.code.items sets are front
@@ -102,10 +102,10 @@ returns-clause-short c =
     let sets = map state_set_view c.as_slice-sets.result.now in
     let are = ap (map state_set_view) c.as_slice-sets.ensures.value in
     let definitions = map definition_view c.as_slice-definitions.result.now in
-    let before = c.new-instrs.result.items in
+    let before = c.in_ok-instrs.instrs.items in
     let placed = c.lay_functions.new.code.items in
     let front : placed ≡ routines_code p =
-    routines-are p before placed c.args.common.now.sites.now c.args.common.now.bodies.now definitions c.new-instrs.ensures.items c.requires.sites c.requires.bodies
+    routines-are p before placed c.args.common.now.sites.now c.args.common.now.bodies.now definitions c.in_ok-instrs.ensures.items c.requires.sites c.requires.bodies
     (ap (map definition_view) c.as_slice-definitions.ensures.value) c.in_ok-functions.ensures.code in
     short p reached code
     (code-is p reached placed c.lay_own.new.code.items c.lay_sets.new.code.items c.lay_own-2.new.code.items sets are front
