@@ -15,8 +15,19 @@ use crate::queues::Queue;
 use crate::stores::Store;
 use snl_meaning::Tied;
 
-/// Puts numbers into words, from a place on. Those for which there is no word are dropped.
+/// Puts numbers into words, from a place on. Those for which there is no word are dropped. Most channels have one element.
 pub fn fill(words: &mut Vec<i64>, place: usize, numbers: &[i64])
+    ensures { words.new.items ≡ overwritten words.old.items place numbers.now }
+{
+    match numbers {
+        [number] => put_after(words, place, 0, *number),
+        _ => fill_all(words, place, numbers),
+    }
+}
+
+/// The same, one number after another.
+#[inline(never)]
+fn fill_all(words: &mut Vec<i64>, place: usize, numbers: &[i64])
     ensures { words.new.items ≡ overwritten words.old.items place numbers.now }
 {
     for (after, number) in numbers.iter().enumerate() {

@@ -3,7 +3,7 @@ use Rattle.std.proofs.lemmas.Int.{to_z-of_z}
 use Rattle.std.proofs.lemmas.List.{get_or_default}
 use Rattle.snl_meaning.specs.World.{overwritten}
 use Rattle.snl_vm.proofs.Filled.{filled-more, filled-all}
-use Rattle.snl_vm.proofs.linking.fill.Goals as goal
+use Rattle.snl_vm.proofs.linking.fill_all.Goals as goal
 
 pub loop-after-preserved : goal.loop-after-preserved
 loop-after-preserved c =

@@ -1,6 +1,6 @@
 use Rattle.std.proofs.Common.{◌≡◌, ◌+◌, drop}
 use Rattle.snl_meaning.specs.World.{overwritten}
-use Rattle.snl_vm.proofs.linking.fill.Given as goal
+use Rattle.snl_vm.proofs.linking.fill_all.Given as goal
 
 -- the numbers that are left make what all of them make
 abbrev pub invariant-loop-after : goal.invariant-loop-after
