@@ -1,5 +1,5 @@
-//! What the words of `snl` do with the system they run on: the files that they read and write, and the answers over one trace. What
-//! searches over every trace, and what tests, stands in the program.
+//! What the words of `snl` do with the system they run on: the files that they read and write, and the answers over one trace. What writes
+//! logs as a trace, what searches over every trace, and what tests, stands in crates above this one.
 #![tactic(auto)]
 
 mod asked;
