@@ -222,7 +222,7 @@ def folders_taken(program, folder):
 
 # A program with ever more worlds, each of which takes some time; how many seconds a search of it has, and how much later it may end.
 ENDLESS = """program endless option +s; int x; assign x to "X"; monitor x; int i; int sum;
-ss s { state a { when (x) { for (i = 0; i < 200; i++) {} sum = (sum * 7 + x) % 1000003; x = 0; } state a } }
+ss s { state a { when (x && sum >= 0) { for (i = 0; i < 200; i++) {} sum = (sum * 7 + x) % 1000003; x = 0; } state a } }
 """
 LONG, GIVEN, LATE = ("search", "--values", "X=0,1,2,3,4,5", "--lines", "30", "--seconds", "4", "endless.st"), 4, 20
 

@@ -1,18 +1,18 @@
 -- What the words of quiet instructions do in one run: all is the same behind them but words that may differ, and what they may do wrong is left
 -- out.
 use Rattle.std.proofs.Common.{◌≡◌, ◌∙◌, ◌+◌, sym, ap, subst, ℕ, ℤ, pos, Bool, true, false, [], Ok, Err, ⊎_elim, if◌then◌else◌}
-use Rattle.std.specs.Prelude.{◌&&◌, ◌+ℤ◌, ◌-ℤ◌, ◌*ℤ◌, int_le, neg_ℤ, slice_set}
+use Rattle.std.specs.Prelude.{◌&&◌, ◌+ℤ◌, ◌-ℤ◌, ◌*ℤ◌, int_div, int_le, int_rem, neg_ℤ, slice_set}
 use Rattle.snl_text.specs.declared.kinds.Kind.{Kind}
 use Rattle.snl_text.specs.declared.kinds.Kind.TheVariants as kind
 use Rattle.snl_arithmetic.specs.declared.arithmetic.ArithmeticFault.TheVariants as sum_fault
-use Rattle.snl_arithmetic.specs.Arithmetic.{is_in_range, in_range}
+use Rattle.snl_arithmetic.specs.Arithmetic.{divided, is_in_range, is_zero, in_range}
 use Rattle.snl_meaning.specs.declared.faults.Fault.{Fault}
 use Rattle.snl_meaning.specs.declared.faults.Fault.TheVariants.{Overflow, DoesNotFit}
 use Rattle.snl_meaning.specs.declared.instrs.Variable.{Variable}
 use Rattle.snl_meaning.specs.Ran.{Ran, Gives, Faults, also, then_do}
 use Rattle.snl_meaning.specs.Words.{adjusted, adjusted_to, natural, operated, operated_prefix, outcome_at, stored}
 use Rattle.snl_meaning.specs.World.{World, element_of, words_for, with_words_for}
-use Rattle.snl_flows.specs.Fine.{MayOverflow, PrefixMayOverflow}
+use Rattle.snl_flows.specs.Fine.{MayOverflow, MayOverflowBy, PrefixMayOverflow}
 use Rattle.snl_flows.specs.LeftOut.{IsLeftOut}
 use Rattle.snl_flows.specs.Outside.{has, places_of}
 use Rattle.snl_flows.specs.Tables.{Flow, Ground, IsOpen, MayDiffer, is_loose}
@@ -77,6 +77,30 @@ module _ (g : Ground) (f : Flow) (set : ℕ) where
   operated-makes kind.Greater line x y w may = made _ w
   operated-makes kind.GreaterEqual line x y w may = made _ w
   operated-makes _ line x y w may = absurd may
+
+  -- a division by a number
+  divided-makes : (by : ℤ → ℤ → ℤ) (line : ℕ) (x z : ℤ) (w : World) → is_zero z ≡ false → has g.lines line ≡ true → Out w (outcome_at line (divided by x z) w)
+  divided-makes by line x z w other left =
+      subst (λ (b : Bool). Out w (outcome_at line (if b then Err sum_fault.Division else in_range (by x z)) w)) (sym other) (ranged line (by x z) w left)
+
+  -- a binary operator with a number
+  pub operated-makes-by : (op : Kind) (line : ℕ) (x z : ℤ) (w : World) → MayOverflowBy g.lines op z line → Out w (operated op line x z w)
+  operated-makes-by kind.Slash line x z w may = divided-makes int_div line x z w may.0 may.1
+  operated-makes-by kind.Percent line x z w may = divided-makes int_rem line x z w may.0 may.1
+  operated-makes-by kind.Comma line x z w may = operated-makes kind.Comma line x z w may
+  operated-makes-by kind.Bar line x z w may = operated-makes kind.Bar line x z w may
+  operated-makes-by kind.Caret line x z w may = operated-makes kind.Caret line x z w may
+  operated-makes-by kind.Ampersand line x z w may = operated-makes kind.Ampersand line x z w may
+  operated-makes-by kind.EqualEqual line x z w may = operated-makes kind.EqualEqual line x z w may
+  operated-makes-by kind.BangEqual line x z w may = operated-makes kind.BangEqual line x z w may
+  operated-makes-by kind.Less line x z w may = operated-makes kind.Less line x z w may
+  operated-makes-by kind.LessEqual line x z w may = operated-makes kind.LessEqual line x z w may
+  operated-makes-by kind.Greater line x z w may = operated-makes kind.Greater line x z w may
+  operated-makes-by kind.GreaterEqual line x z w may = operated-makes kind.GreaterEqual line x z w may
+  operated-makes-by kind.Plus line x z w may = operated-makes kind.Plus line x z w may
+  operated-makes-by kind.Minus line x z w may = operated-makes kind.Minus line x z w may
+  operated-makes-by kind.Star line x z w may = operated-makes kind.Star line x z w may
+  operated-makes-by _ line x z w may = absurd may
 
   -- a prefix operator
   pub prefix-makes : (op : Kind) (line : ℕ) (z : ℤ) (w : World) → PrefixMayOverflow g.lines op line → Out w (operated_prefix op line z w)

@@ -10,11 +10,11 @@ use Rattle.snl_meaning.specs.Names.{format_text}
 use Rattle.snl_meaning.specs.Run.{Entry}
 use Rattle.snl_meaning.specs.Words.{element_place}
 use Rattle.snl_text.specs.declared.kinds.Kind.{Kind}
-use Rattle.snl_flows.specs.Checks.{are_all_same, are_bound, are_first_same, are_no_more, are_put, are_put_by, are_same_at, begins, is_bound, is_fine_at, is_named, is_printed, is_put, is_put_at, is_put_by, is_put_of, is_read, is_same_at, is_same_in, known_at, leads, leads_after, may_get_other, may_overflow, prefix_may_overflow}
+use Rattle.snl_flows.specs.Checks.{are_all_same, are_bound, are_first_same, are_no_more, are_put, are_put_by, are_same_at, begins, is_bound, is_fine_at, is_named, is_printed, is_put, is_put_at, is_put_by, is_put_of, is_read, is_same_at, is_same_in, known_at, leads, leads_after, may_get_other, may_overflow, may_overflow_by, may_overflow_over, prefix_may_overflow}
 use Rattle.snl_flows.specs.Fine.{Begins, IsAnyElement, IsBound, IsFineAt, IsPrinted, IsPut, IsPutBy, LeadsTo, MayBecomeOther, settled_of}
 use Rattle.snl_flows.specs.Outside.{has}
 use Rattle.snl_flows.specs.Tables.{Operand, Another, Same, Within, CanBe, IsSameIn, top_of, below, under, Flow, Ground, facts_at, said_at}
-use Rattle.snl_flows.proofs.Checks.{all-no-more, all-same, first-same, first-same-at, gets-other, leads-more, leads-one, leads-to, named-by, overflows, prefix-overflows, read-by, same-in, words-behind, words-same}
+use Rattle.snl_flows.proofs.Checks.{all-no-more, all-same, first-same, first-same-at, gets-other, leads-more, leads-one, leads-to, named-by, overflows, overflows-by, overflows-over, prefix-overflows, read-by, same-in, words-behind, words-same}
 
 module _ (g : Ground) (set : ℕ) (f : Flow) where
   -- ---- puts
@@ -167,15 +167,15 @@ module _ (g : Ground) (set : ℕ) (f : Flow) where
     fine-at (AdjustAt v op op_line line is_before) said = with-test (is_read g set f at v (top_of os)) (at + 1) (Same ∷ below os) (read-by g set f at v (top_of os)) said
     fine-at (Apply op line) said =
         either (is_same_in (top_of os) && is_same_in (top_of (below os)) && leads g set f at (at + 1) (Same ∷ below (below os)))
-        (may_overflow g.lines op line && leads g set f at (at + 1) (Another ∷ below (below os)))
+        (may_overflow_over g.lines op (top_of os) line && leads g set f at (at + 1) (Another ∷ below (below os)))
         (λ same. let two = and_parts (is_same_in (top_of os) && is_same_in (top_of (below os))) (leads g set f at (at + 1) (Same ∷ below (below os))) same in
         let one = and_parts (is_same_in (top_of os)) (is_same_in (top_of (below os))) two.0 in
         (same-in (top_of os) one.0, same-in (top_of (below os)) one.1, leads-to g set f at (at + 1) (Same ∷ below (below os)) two.1))
-        (with-test (may_overflow g.lines op line) (at + 1) (Another ∷ below (below os)) (overflows g.lines op line)) said
+        (with-test (may_overflow_over g.lines op (top_of os) line) (at + 1) (Another ∷ below (below os)) (overflows-over g.lines op (top_of os) line)) said
     fine-at (ApplyNumber op z line) said =
-        either (is_same_in (top_of os) && leads g set f at (at + 1) (Same ∷ below os)) (may_overflow g.lines op line && leads g set f at (at + 1) (Another ∷ below os))
+        either (is_same_in (top_of os) && leads g set f at (at + 1) (Same ∷ below os)) (may_overflow_by g.lines op z line && leads g set f at (at + 1) (Another ∷ below os))
         (with-test (is_same_in (top_of os)) (at + 1) (Same ∷ below os) (same-in (top_of os)))
-        (with-test (may_overflow g.lines op line) (at + 1) (Another ∷ below os) (overflows g.lines op line)) said
+        (with-test (may_overflow_by g.lines op z line) (at + 1) (Another ∷ below os) (overflows-by g.lines op z line)) said
     fine-at (ApplyPrefix op line) said =
         either (is_same_in (top_of os) && leads g set f at (at + 1) (Same ∷ below os)) (prefix_may_overflow g.lines op line && leads g set f at (at + 1) (Another ∷ below os))
         (with-test (is_same_in (top_of os)) (at + 1) (Same ∷ below os) (same-in (top_of os)))

@@ -1,12 +1,13 @@
 -- Where the check of a table says so, the table is right.
-use Rattle.std.proofs.Common.{◌≡◌, ◌∙◌, ◌⊎◌, ◌+◌, ◌-◌, ◌≤◌, ◌<◌, inl, inr, ⊎_elim, refl, sym, ap, subst, arith, ℕ, zero, suc, Bool, true, false, List, [], ◌∷◌, if◌then◌else◌}
+use Rattle.std.proofs.Common.{◌≡◌, ◌∙◌, ◌⊎◌, ◌+◌, ◌-◌, ◌≤◌, ◌<◌, inl, inr, ⊎_elim, refl, sym, ap, subst, arith, ℕ, ℤ, zero, suc, Bool, true, false, List, [], ◌∷◌, if◌then◌else◌}
 use Rattle.std.specs.Prelude.{◌==◌, ◌&&◌, ◌||◌, nat_le, nat_lt, not}
 use Rattle.std.proofs.lemmas.Bool.{and_parts, or_cases, eqb-true, leb-true, ltb-true, false≢true}
+use Rattle.snl_arithmetic.specs.Arithmetic.{is_zero}
 use Rattle.snl_text.specs.declared.kinds.Kind.{Kind}
 use Rattle.snl_text.specs.declared.kinds.Kind.TheVariants as kind
 use Rattle.snl_meaning.specs.declared.instrs.Variable.{Variable}
-use Rattle.snl_flows.specs.Checks.{has_all, has_more, are_below, is_name, is_named, is_same_in, are_first_same, are_all_same, is_no_more, are_no_more, may_overflow, prefix_may_overflow, hidden_here, known_at, leads, leads_after, is_same_at, are_same_at, is_read, may_get_other}
-use Rattle.snl_flows.specs.Fine.{AreRead, IsElement, LeadsAfter, LeadsTo, MayGetOther, MayOverflow, PrefixMayOverflow}
+use Rattle.snl_flows.specs.Checks.{has_all, has_more, are_below, is_name, is_named, is_same_in, are_first_same, are_all_same, is_no_more, are_no_more, may_overflow, may_overflow_by, may_overflow_over, prefix_may_overflow, hidden_here, known_at, leads, leads_after, is_same_at, are_same_at, is_read, may_get_other}
+use Rattle.snl_flows.specs.Fine.{AreRead, IsElement, LeadsAfter, LeadsTo, MayGetOther, MayOverflow, MayOverflowBy, MayOverflowOver, PrefixMayOverflow}
 use Rattle.snl_flows.specs.Outside.{has, places_of}
 use Rattle.snl_flows.specs.Tables.{Operand, Another, Same, Within, IsSameIn, top_of, below, AreFirstSame, AreAllSame, IsNoMore, AreNoMore, Flow, Ground, IsOpen, IsSameAt, MayDiffer, facts_at, is_loose, said_at}
 use Rattle.snl_flows.specs.Texts.{IsNamed}
@@ -124,6 +125,44 @@ overflows lines kind.LessEqual line said = tt
 overflows lines kind.Greater line said = tt
 overflows lines kind.GreaterEqual line said = tt
 overflows lines _ line said = absurd (false≢true said)
+
+-- one whose right operand is known so
+pub overflows-over : (lines : List ℕ) (op : Kind) (o : Operand) (line : ℕ) → may_overflow_over lines op o line ≡ true → MayOverflowOver lines op o line
+overflows-over lines kind.Slash o line said = let parts = and_parts (is_same_in o) (has lines line) said in (same-in o parts.0, parts.1)
+overflows-over lines kind.Percent o line said = let parts = and_parts (is_same_in o) (has lines line) said in (same-in o parts.0, parts.1)
+overflows-over lines kind.Comma o line said = overflows lines kind.Comma line said
+overflows-over lines kind.Bar o line said = overflows lines kind.Bar line said
+overflows-over lines kind.Caret o line said = overflows lines kind.Caret line said
+overflows-over lines kind.Ampersand o line said = overflows lines kind.Ampersand line said
+overflows-over lines kind.EqualEqual o line said = overflows lines kind.EqualEqual line said
+overflows-over lines kind.BangEqual o line said = overflows lines kind.BangEqual line said
+overflows-over lines kind.Less o line said = overflows lines kind.Less line said
+overflows-over lines kind.LessEqual o line said = overflows lines kind.LessEqual line said
+overflows-over lines kind.Greater o line said = overflows lines kind.Greater line said
+overflows-over lines kind.GreaterEqual o line said = overflows lines kind.GreaterEqual line said
+overflows-over lines kind.Plus o line said = overflows lines kind.Plus line said
+overflows-over lines kind.Minus o line said = overflows lines kind.Minus line said
+overflows-over lines kind.Star o line said = overflows lines kind.Star line said
+overflows-over lines _ o line said = absurd (false≢true said)
+
+-- one with a number
+pub overflows-by : (lines : List ℕ) (op : Kind) (z : ℤ) (line : ℕ) → may_overflow_by lines op z line ≡ true → MayOverflowBy lines op z line
+overflows-by lines kind.Slash z line said = let parts = and_parts (not (is_zero z)) (has lines line) said in (not-so (is_zero z) parts.0, parts.1)
+overflows-by lines kind.Percent z line said = let parts = and_parts (not (is_zero z)) (has lines line) said in (not-so (is_zero z) parts.0, parts.1)
+overflows-by lines kind.Comma z line said = overflows lines kind.Comma line said
+overflows-by lines kind.Bar z line said = overflows lines kind.Bar line said
+overflows-by lines kind.Caret z line said = overflows lines kind.Caret line said
+overflows-by lines kind.Ampersand z line said = overflows lines kind.Ampersand line said
+overflows-by lines kind.EqualEqual z line said = overflows lines kind.EqualEqual line said
+overflows-by lines kind.BangEqual z line said = overflows lines kind.BangEqual line said
+overflows-by lines kind.Less z line said = overflows lines kind.Less line said
+overflows-by lines kind.LessEqual z line said = overflows lines kind.LessEqual line said
+overflows-by lines kind.Greater z line said = overflows lines kind.Greater line said
+overflows-by lines kind.GreaterEqual z line said = overflows lines kind.GreaterEqual line said
+overflows-by lines kind.Plus z line said = overflows lines kind.Plus line said
+overflows-by lines kind.Minus z line said = overflows lines kind.Minus line said
+overflows-by lines kind.Star z line said = overflows lines kind.Star line said
+overflows-by lines _ z line said = absurd (false≢true said)
 
 -- a prefix operator
 pub prefix-overflows : (lines : List ℕ) (op : Kind) (line : ℕ) → prefix_may_overflow lines op line ≡ true → PrefixMayOverflow lines op line

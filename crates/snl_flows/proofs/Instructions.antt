@@ -15,13 +15,13 @@ use Rattle.snl_meaning.specs.Run.{Entry, PieceContext, GoesTo, EndsWith, goes, g
 use Rattle.snl_meaning.specs.Words.{adjusted, cleared, element_place, fitted, gives, natural, operated, operated_prefix, printed, put_element, read, settled, spent, subscript, waited}
 use Rattle.snl_meaning.specs.World.{World}
 use Rattle.snl_alike.proofs.Linked.{agrees-printed, agrees-asked, agrees-ask_element}
-use Rattle.snl_flows.specs.Fine.{AreRead, Begins, IsAnyElement, IsFineAt, IsFirstSame, IsPrinted, LeadsTo, MayBecomeOther, MayOverflow, PrefixMayOverflow, settled_of}
+use Rattle.snl_flows.specs.Fine.{AreRead, Begins, IsAnyElement, IsFineAt, IsFirstSame, IsPrinted, LeadsTo, MayBecomeOther, MayOverflowBy, MayOverflowOver, PrefixMayOverflow, settled_of}
 use Rattle.snl_flows.specs.LeftOut.{IsLeftOut}
 use Rattle.snl_flows.specs.Tables.{Operand, Another, Same, Within, IsSameIn, top_of, below, Flow, Ground, HasLinks}
 use Rattle.snl_flows.specs.Texts.{IsNamed, SameButValues}
 use Rattle.snl_flows.proofs.Kept.{settled-to, waited-to, SameKept}
 use Rattle.snl_flows.proofs.Operands.{HoldsOf, HoldOf, all-same, can-be, first-same, same-of}
-use Rattle.snl_flows.proofs.Operators.{operated-other, outcome-to, prefix-other}
+use Rattle.snl_flows.proofs.Operators.{operated-other-by, operated-other-over, outcome-to, prefix-other}
 use Rattle.snl_flows.proofs.Outcomes.{AlikeTo, BothLead, lead, stop, test-to, then-to}
 use Rattle.snl_flows.proofs.Puts.{put-to, spent-to}
 use Rattle.snl_flows.proofs.Steps.{K, ops, At, Next, Holds, AreBack, IsOfGround, BothEnd, BothLeave, led, led-after, on, pushed, topped, two-topped, twice, free, known, apart, stores, assigns, stores-at, checked, jumped, taken, returned, called-on}
@@ -109,9 +109,9 @@ module _ (g : Ground) (f : Flow) (c : PieceContext) where
       (subst (λ (z : ℤ). AlikeTo g (Holds g f c at Same) (operated op line x y w) (operated op line z y' u)) (same-of (top_of (below (ops g f c at))) x x' same.1 next)
       (twice g f c (Holds g f c at Same) (operated op line x) y y' w u (same-of (top_of (ops g f c at)) y y' same.0 top)
       (outcome-to g c.set (K g f c at) line (computed op x y) w u e))))
-      (λ (other : MayOverflow g.lines op line × LeadsTo g c.set f at (at + 1) (Another ∷ below (below (ops g f c at)))).
+      (λ (other : MayOverflowOver g.lines op (top_of (ops g f c at)) line × LeadsTo g c.set f at (at + 1) (Another ∷ below (below (ops g f c at)))).
       on g f c at (at + 1) Another (below (below (ops g f c at))) s' t' (operated op line x y w) (operated op line x' y' u) other.1 rest
-      (operated-other g c.set (K g f c at) op line x x' y y' w u other.0 e)) fine)
+      (operated-other-over g c.set (K g f c at) op (top_of (ops g f c at)) line x x' y y' w u other.0 top e)) fine)
 
   -- one with a number
   applies-number : (at : ℕ) (op : Kind) (z : ℤ) (line : ℕ) (s t : List ℤ) (w u : World) → Does (ApplyNumber op z line) at s t w u
@@ -124,9 +124,9 @@ module _ (g : Ground) (f : Flow) (c : PieceContext) where
       on g f c at (at + 1) Same (below (ops g f c at)) s' t' (operated op line x z w) (operated op line y z u) same.1 rest
       (twice g f c (Holds g f c at Same) (λ a. operated op line a z) x y w u (same-of (top_of (ops g f c at)) x y same.0 top)
       (outcome-to g c.set (K g f c at) line (computed op x z) w u e)))
-      (λ (other : MayOverflow g.lines op line × LeadsTo g c.set f at (at + 1) (Another ∷ below (ops g f c at))).
+      (λ (other : MayOverflowBy g.lines op z line × LeadsTo g c.set f at (at + 1) (Another ∷ below (ops g f c at))).
       on g f c at (at + 1) Another (below (ops g f c at)) s' t' (operated op line x z w) (operated op line y z u) other.1 rest
-      (operated-other g c.set (K g f c at) op line x y z z w u other.0 e)) fine)
+      (operated-other-by g c.set (K g f c at) op line x y z w u other.0 e)) fine)
 
   -- a prefix operator
   applies-prefix : (at : ℕ) (op : Kind) (line : ℕ) (s t : List ℤ) (w u : World) → Does (ApplyPrefix op line) at s t w u

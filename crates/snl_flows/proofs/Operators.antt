@@ -1,19 +1,19 @@
 -- What operators make in two runs of operands that are the same, or of others.
-use Rattle.std.proofs.Common.{◌≡◌, refl, ℕ, ℤ, Bool, true, false, [], Result, Ok, Err, if◌then◌else◌}
-use Rattle.std.specs.Prelude.{neg_ℤ, ◌+ℤ◌, ◌-ℤ◌, ◌*ℤ◌}
+use Rattle.std.proofs.Common.{◌≡◌, refl, subst, sym, ℕ, ℤ, Bool, true, false, [], Result, Ok, Err, if◌then◌else◌}
+use Rattle.std.specs.Prelude.{neg_ℤ, ◌+ℤ◌, ◌-ℤ◌, ◌*ℤ◌, int_div, int_rem}
 use Rattle.snl_text.specs.declared.kinds.Kind.{Kind}
 use Rattle.snl_text.specs.declared.kinds.Kind.TheVariants as kind
 use Rattle.snl_arithmetic.specs.declared.arithmetic.ArithmeticFault as sum
 use Rattle.snl_arithmetic.specs.declared.arithmetic.ArithmeticFault.TheVariants as sum_fault
-use Rattle.snl_arithmetic.specs.Arithmetic.{is_in_range, in_range}
-use Rattle.snl_meaning.specs.declared.faults.Fault.TheVariants.{Overflow}
+use Rattle.snl_arithmetic.specs.Arithmetic.{divided, is_in_range, is_zero, in_range}
+use Rattle.snl_meaning.specs.declared.faults.Fault.TheVariants.{DivisionByZero, Overflow}
 use Rattle.snl_meaning.specs.Ran.{Gives}
 use Rattle.snl_meaning.specs.Words.{operated, operated_prefix, outcome_at, fault_of}
 use Rattle.snl_meaning.specs.World.{World}
-use Rattle.snl_flows.specs.Fine.{MayOverflow, PrefixMayOverflow}
+use Rattle.snl_flows.specs.Fine.{MayOverflow, MayOverflowBy, MayOverflowOver, PrefixMayOverflow}
 use Rattle.snl_flows.specs.Outside.{has}
 use Rattle.snl_flows.specs.Tables.{Operand, Another, Same, Ground}
-use Rattle.snl_flows.proofs.Operands.{HoldsOf}
+use Rattle.snl_flows.proofs.Operands.{HoldsOf, same-of}
 use Rattle.snl_flows.proofs.Outcomes.{AlikeTo, FirstStops, SecondStops, lead, stop}
 use Rattle.snl_flows.proofs.Worlds.{SameOn, same-outside}
 
@@ -58,6 +58,65 @@ module _ (g : Ground) (set : ℕ) (K : Bool → ℕ → Type 0) where
   operated-other kind.Greater line x y a b w u may e = outcome-free line _ _ w u e
   operated-other kind.GreaterEqual line x y a b w u may e = outcome-free line _ _ w u e
   operated-other _ line x y a b w u may e = absurd may
+
+  -- a division of others by a number
+  divided-other : (by : ℤ → ℤ → ℤ) (line : ℕ) (x y z : ℤ) (w u : World) → is_zero z ≡ false → has g.lines line ≡ true → SameOn g.hidden set K w u →
+      AlikeTo g (Out Another) (outcome_at line (divided by x z) w) (outcome_at line (divided by y z) u)
+  divided-other by line x y z w u other left e =
+      subst (λ (b : Bool). AlikeTo g (Out Another) (outcome_at line (if b then Err sum_fault.Division else in_range (by x z)) w)
+      (outcome_at line (if b then Err sum_fault.Division else in_range (by y z)) u)) (sym other) (outcome-other line (by x z) (by y z) w u left e)
+
+  -- a division of others by what is the same
+  divided-over : (by : ℤ → ℤ → ℤ) (line : ℕ) (x y z : ℤ) (w u : World) → has g.lines line ≡ true → SameOn g.hidden set K w u →
+      AlikeTo g (Out Another) (outcome_at line (divided by x z) w) (outcome_at line (divided by y z) u)
+  divided-over by line x y z w u left e = at (is_zero z)
+    where
+      at : (b : Bool) → AlikeTo g (Out Another) (outcome_at line (if b then Err sum_fault.Division else in_range (by x z)) w)
+          (outcome_at line (if b then Err sum_fault.Division else in_range (by y z)) u)
+      at true = stop g (Out Another) DivisionByZero line w u (same-outside g.hidden set K w u e)
+      at false = outcome-other line (by x z) (by y z) w u left e
+
+  -- a binary operator on others and on what is known so
+  pub operated-other-over : (op : Kind) (o : Operand) (line : ℕ) (x y a b : ℤ) (w u : World) → MayOverflowOver g.lines op o line → HoldsOf o a b → SameOn g.hidden set K w u →
+      AlikeTo g (Out Another) (operated op line x a w) (operated op line y b u)
+  operated-other-over kind.Slash o line x y a b w u may h e =
+      subst (λ (c : ℤ). AlikeTo g (Out Another) (operated kind.Slash line x a w) (operated kind.Slash line y c u)) (same-of o a b may.0 h) (divided-over int_div line x y a w u may.1 e)
+  operated-other-over kind.Percent o line x y a b w u may h e =
+      subst (λ (c : ℤ). AlikeTo g (Out Another) (operated kind.Percent line x a w) (operated kind.Percent line y c u)) (same-of o a b may.0 h) (divided-over int_rem line x y a w u may.1 e)
+  operated-other-over kind.Comma o line x y a b w u may h e = operated-other kind.Comma line x y a b w u may e
+  operated-other-over kind.Bar o line x y a b w u may h e = operated-other kind.Bar line x y a b w u may e
+  operated-other-over kind.Caret o line x y a b w u may h e = operated-other kind.Caret line x y a b w u may e
+  operated-other-over kind.Ampersand o line x y a b w u may h e = operated-other kind.Ampersand line x y a b w u may e
+  operated-other-over kind.EqualEqual o line x y a b w u may h e = operated-other kind.EqualEqual line x y a b w u may e
+  operated-other-over kind.BangEqual o line x y a b w u may h e = operated-other kind.BangEqual line x y a b w u may e
+  operated-other-over kind.Less o line x y a b w u may h e = operated-other kind.Less line x y a b w u may e
+  operated-other-over kind.LessEqual o line x y a b w u may h e = operated-other kind.LessEqual line x y a b w u may e
+  operated-other-over kind.Greater o line x y a b w u may h e = operated-other kind.Greater line x y a b w u may e
+  operated-other-over kind.GreaterEqual o line x y a b w u may h e = operated-other kind.GreaterEqual line x y a b w u may e
+  operated-other-over kind.Plus o line x y a b w u may h e = operated-other kind.Plus line x y a b w u may e
+  operated-other-over kind.Minus o line x y a b w u may h e = operated-other kind.Minus line x y a b w u may e
+  operated-other-over kind.Star o line x y a b w u may h e = operated-other kind.Star line x y a b w u may e
+  operated-other-over _ o line x y a b w u may h e = absurd may
+
+  -- a binary operator on others and a number
+  pub operated-other-by : (op : Kind) (line : ℕ) (x y z : ℤ) (w u : World) → MayOverflowBy g.lines op z line → SameOn g.hidden set K w u →
+      AlikeTo g (Out Another) (operated op line x z w) (operated op line y z u)
+  operated-other-by kind.Slash line x y z w u may e = divided-other int_div line x y z w u may.0 may.1 e
+  operated-other-by kind.Percent line x y z w u may e = divided-other int_rem line x y z w u may.0 may.1 e
+  operated-other-by kind.Comma line x y z w u may e = operated-other kind.Comma line x y z z w u may e
+  operated-other-by kind.Bar line x y z w u may e = operated-other kind.Bar line x y z z w u may e
+  operated-other-by kind.Caret line x y z w u may e = operated-other kind.Caret line x y z z w u may e
+  operated-other-by kind.Ampersand line x y z w u may e = operated-other kind.Ampersand line x y z z w u may e
+  operated-other-by kind.EqualEqual line x y z w u may e = operated-other kind.EqualEqual line x y z z w u may e
+  operated-other-by kind.BangEqual line x y z w u may e = operated-other kind.BangEqual line x y z z w u may e
+  operated-other-by kind.Less line x y z w u may e = operated-other kind.Less line x y z z w u may e
+  operated-other-by kind.LessEqual line x y z w u may e = operated-other kind.LessEqual line x y z z w u may e
+  operated-other-by kind.Greater line x y z w u may e = operated-other kind.Greater line x y z z w u may e
+  operated-other-by kind.GreaterEqual line x y z w u may e = operated-other kind.GreaterEqual line x y z z w u may e
+  operated-other-by kind.Plus line x y z w u may e = operated-other kind.Plus line x y z z w u may e
+  operated-other-by kind.Minus line x y z w u may e = operated-other kind.Minus line x y z z w u may e
+  operated-other-by kind.Star line x y z w u may e = operated-other kind.Star line x y z z w u may e
+  operated-other-by _ line x y z w u may e = absurd may
 
   -- a prefix operator on others
   pub prefix-other : (op : Kind) (line : ℕ) (x y : ℤ) (w u : World) → PrefixMayOverflow g.lines op line → SameOn g.hidden set K w u →

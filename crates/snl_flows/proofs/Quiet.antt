@@ -15,7 +15,7 @@ use Rattle.snl_flows.specs.LeftOut.{IsLeftOut}
 use Rattle.snl_flows.specs.Quiet.{IsQuietAt, StaysIn, height_at}
 use Rattle.snl_flows.specs.Tables.{Flow, Ground}
 use Rattle.snl_flows.specs.Texts.{IsNamed}
-use Rattle.snl_flows.proofs.Alone.{Firm, Still, Makes, Made, Failed, adjusted-makes, made, operated-makes, prefix-makes, stored-makes}
+use Rattle.snl_flows.proofs.Alone.{Firm, Still, Makes, Made, Failed, adjusted-makes, made, operated-makes, operated-makes-by, prefix-makes, stored-makes}
 use Rattle.snl_flows.proofs.Joined.{same-joined, same-self}
 use Rattle.snl_flows.proofs.Steps.{IsOfGround}
 use Rattle.snl_flows.proofs.Texts.{ArePrints, NoPrint, OnePrint, prints-joined}
@@ -170,7 +170,7 @@ module _ (g : Ground) (f : Flow) (c : PieceContext) (code-of : IsOfGround g c) (
       (operated-makes g f c.set op line x y w quiet.0))
   quiet-passes (ApplyNumber op z line) at new w quiet here =
       topmost at new w _ here quiet.1.own (λ x rest so. with-made at (at + 1) rest w _ (omega arith) quiet.1.within (let total = quiet.1.many in omega (arith, so, total))
-      (operated-makes g f c.set op line x z w quiet.0))
+      (operated-makes-by g f c.set op line x z w quiet.0))
   quiet-passes (ApplyPrefix op line) at new w quiet here =
       topmost at new w _ here quiet.1.own (λ x rest so. with-made at (at + 1) rest w _ (omega arith) quiet.1.within (let total = quiet.1.many in omega (arith, so, total))
       (prefix-makes g f c.set op line x w quiet.0))

@@ -7,13 +7,13 @@ use Rattle.snl_meaning.specs.declared.instrs.Instr.TheVariants.{Push, Load, Stor
 use Rattle.snl_meaning.specs.declared.instrs.Variable.{Variable}
 use Rattle.snl_meaning.specs.Names.{format_text}
 use Rattle.snl_text.specs.declared.kinds.Kind.{Kind}
-use Rattle.snl_flows.specs.Checks.{is_fine_at, is_named, known_at, leads, may_get_other, may_overflow, prefix_may_overflow}
+use Rattle.snl_flows.specs.Checks.{is_fine_at, is_named, known_at, leads, may_get_other, may_overflow, may_overflow_by, prefix_may_overflow}
 use Rattle.snl_flows.specs.Fine.{IsFineAt, MayBecomeOther}
 use Rattle.snl_flows.specs.Quiet.{AreFine, ArePassed, IsPassed, IsQuietAt, StaysIn, height_at, join_at, others_on}
 use Rattle.snl_flows.specs.QuietChecks.{ChecksAreRight, are_fine, are_passed_to, are_quiet, is_passed, is_quiet_at, may_become, stays_in}
 use Rattle.snl_flows.specs.Tables.{below, Flow, Ground, IsReached, facts_at}
 use Rattle.snl_flows.proofs.Checked.{fine-at}
-use Rattle.snl_flows.proofs.Checks.{gets-other, leads-to, named-by, overflows, prefix-overflows}
+use Rattle.snl_flows.proofs.Checks.{gets-other, leads-to, named-by, overflows, overflows-by, prefix-overflows}
 
 -- one of the first instructions
 taken-at : (many k : ℕ) (xs : List Instr) → k < many → slice_get (take many xs) k ≡ slice_get xs k
@@ -70,7 +70,7 @@ module _ (g : Ground) (set : ℕ) (f : Flow) where
     quiet-at (Adjust v op op_line line is_before) said = with-test (may_become g set f v op op_line line) (at + 1) 0 1 (becomes v op op_line line) said
     quiet-at (Increment v op op_line line) said = with-test (may_become g set f v op op_line line) (at + 1) 0 0 (becomes v op op_line line) said
     quiet-at (Apply op line) said = with-test (may_overflow g.lines op line) (at + 1) 2 1 (overflows g.lines op line) said
-    quiet-at (ApplyNumber op z line) said = with-test (may_overflow g.lines op line) (at + 1) 1 1 (overflows g.lines op line) said
+    quiet-at (ApplyNumber op z line) said = with-test (may_overflow_by g.lines op z line) (at + 1) 1 1 (overflows-by g.lines op z line) said
     quiet-at (ApplyPrefix op line) said = with-test (prefix_may_overflow g.lines op line) (at + 1) 1 1 (prefix-overflows g.lines op line) said
     quiet-at Settle said = stays (at + 1) 1 1 said
     quiet-at Drop said = stays (at + 1) 1 0 said

@@ -1,5 +1,6 @@
 -- The check of tables, instruction by instruction: what it answers.
-use Rattle.std.specs.Prelude.{◌+◌, ◌-◌, ◌==◌, ◌&&◌, ◌||◌, ℕ, zero, suc, Bool, true, false, not, List, [], ◌∷◌, Option, None, Some, nat_le, nat_lt, slice_get, slice_index_or, if◌then◌else◌}
+use Rattle.std.specs.Prelude.{◌+◌, ◌-◌, ◌==◌, ◌&&◌, ◌||◌, ℕ, ℤ, zero, suc, Bool, true, false, not, List, [], ◌∷◌, Option, None, Some, nat_le, nat_lt, slice_get, slice_index_or, if◌then◌else◌}
+use Rattle.snl_arithmetic.specs.Arithmetic.{is_zero}
 use Rattle.snl_text.specs.declared.kinds.Kind.{Kind}
 use Rattle.snl_text.specs.declared.kinds.Kind.TheVariants as kind
 use Rattle.snl_meaning.specs.declared.instrs.Instr.{Instr}
@@ -92,6 +93,18 @@ may_overflow lines kind.LessEqual line = true
 may_overflow lines kind.Greater line = true
 may_overflow lines kind.GreaterEqual line = true
 may_overflow lines _ line = false
+
+-- The same of one whose right operand is known so, which is the same in both runs if it is a divisor.
+abbrev pub may_overflow_over : List ℕ → Kind → Operand → ℕ → Bool
+may_overflow_over lines kind.Slash o line = is_same_in o && has lines line
+may_overflow_over lines kind.Percent o line = is_same_in o && has lines line
+may_overflow_over lines op o line = may_overflow lines op line
+
+-- The same of one with a number on its right side, which is no 0 if it is a divisor.
+abbrev pub may_overflow_by : List ℕ → Kind → ℤ → ℕ → Bool
+may_overflow_by lines kind.Slash z line = not (is_zero z) && has lines line
+may_overflow_by lines kind.Percent z line = not (is_zero z) && has lines line
+may_overflow_by lines op z line = may_overflow lines op line
 
 -- The same of a prefix operator.
 abbrev pub prefix_may_overflow : List ℕ → Kind → ℕ → Bool
@@ -220,9 +233,10 @@ module _ (g : Ground) (set : ℕ) (f : Flow) where
   is_fine_at at (AdjustAt v op op_line line is_before) = is_read at v (top_of (known_at at)) && leads at (at + 1) (Same ∷ below (known_at at))
   is_fine_at at (Apply op line) =
       (is_same_in (top_of (known_at at)) && is_same_in (top_of (below (known_at at))) && leads at (at + 1) (Same ∷ below (below (known_at at))))
-      || (may_overflow g.lines op line && leads at (at + 1) (Another ∷ below (below (known_at at))))
+      || (may_overflow_over g.lines op (top_of (known_at at)) line && leads at (at + 1) (Another ∷ below (below (known_at at))))
   is_fine_at at (ApplyNumber op z line) =
-      (is_same_in (top_of (known_at at)) && leads at (at + 1) (Same ∷ below (known_at at))) || (may_overflow g.lines op line && leads at (at + 1) (Another ∷ below (known_at at)))
+      (is_same_in (top_of (known_at at)) && leads at (at + 1) (Same ∷ below (known_at at)))
+      || (may_overflow_by g.lines op z line && leads at (at + 1) (Another ∷ below (known_at at)))
   is_fine_at at (ApplyPrefix op line) =
       (is_same_in (top_of (known_at at)) && leads at (at + 1) (Same ∷ below (known_at at)))
       || (prefix_may_overflow g.lines op line && leads at (at + 1) (Another ∷ below (known_at at)))

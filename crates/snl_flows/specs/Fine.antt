@@ -1,5 +1,6 @@
 -- What a table says of code is right: what decides anything is the same in both runs.
-use Rattle.std.specs.Prelude.{◌≡◌, ◌⊎◌, ◌+◌, ◌-◌, ◌≤◌, ◌<◌, ℕ, zero, suc, Bool, true, false, List, [], ◌∷◌, Option, None, Some, slice_get, slice_index_or}
+use Rattle.std.specs.Prelude.{◌≡◌, ◌⊎◌, ◌+◌, ◌-◌, ◌≤◌, ◌<◌, ℕ, ℤ, zero, suc, Bool, true, false, List, [], ◌∷◌, Option, None, Some, slice_get, slice_index_or}
+use Rattle.snl_arithmetic.specs.Arithmetic.{is_zero}
 use Rattle.snl_text.specs.declared.kinds.Kind.{Kind}
 use Rattle.snl_text.specs.declared.kinds.Kind.TheVariants as kind
 use Rattle.snl_meaning.specs.declared.instrs.Instr.{Instr}
@@ -48,6 +49,18 @@ MayOverflow lines kind.LessEqual line = Unit {0}
 MayOverflow lines kind.Greater line = Unit {0}
 MayOverflow lines kind.GreaterEqual line = Unit {0}
 MayOverflow lines _ line = ⊥
+
+-- The same of one whose right operand is known so: it divides by what is the same in both runs, so that both come to a division by 0, or none.
+abbrev pub MayOverflowOver : List ℕ → Kind → Operand → ℕ → Type 0
+MayOverflowOver lines kind.Slash o line = IsSameIn o × (has lines line ≡ true)
+MayOverflowOver lines kind.Percent o line = IsSameIn o × (has lines line ≡ true)
+MayOverflowOver lines op o line = MayOverflow lines op line
+
+-- The same of one with a number on its right side: it divides by no 0.
+abbrev pub MayOverflowBy : List ℕ → Kind → ℤ → ℕ → Type 0
+MayOverflowBy lines kind.Slash z line = (is_zero z ≡ false) × (has lines line ≡ true)
+MayOverflowBy lines kind.Percent z line = (is_zero z ≡ false) × (has lines line ≡ true)
+MayOverflowBy lines op z line = MayOverflow lines op line
 
 -- The same of a prefix operator.
 abbrev pub PrefixMayOverflow : List ℕ → Kind → ℕ → Type 0
@@ -140,10 +153,10 @@ module _ (g : Ground) (set : ℕ) (f : Flow) where
   IsFineAt at (AdjustAt v op op_line line is_before) = AreRead at v (top_of (operands_at at)) × LeadsTo at (at + 1) (Same ∷ below (operands_at at))
   IsFineAt at (Apply op line) =
       (IsSameIn (top_of (operands_at at)) × IsSameIn (top_of (below (operands_at at))) × LeadsTo at (at + 1) (Same ∷ below (below (operands_at at))))
-      ⊎ (MayOverflow g.lines op line × LeadsTo at (at + 1) (Another ∷ below (below (operands_at at))))
+      ⊎ (MayOverflowOver g.lines op (top_of (operands_at at)) line × LeadsTo at (at + 1) (Another ∷ below (below (operands_at at))))
   IsFineAt at (ApplyNumber op z line) =
       (IsSameIn (top_of (operands_at at)) × LeadsTo at (at + 1) (Same ∷ below (operands_at at)))
-      ⊎ (MayOverflow g.lines op line × LeadsTo at (at + 1) (Another ∷ below (operands_at at)))
+      ⊎ (MayOverflowBy g.lines op z line × LeadsTo at (at + 1) (Another ∷ below (operands_at at)))
   IsFineAt at (ApplyPrefix op line) =
       (IsSameIn (top_of (operands_at at)) × LeadsTo at (at + 1) (Same ∷ below (operands_at at)))
       ⊎ (PrefixMayOverflow g.lines op line × LeadsTo at (at + 1) (Another ∷ below (operands_at at)))

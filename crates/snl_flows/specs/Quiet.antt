@@ -3,7 +3,7 @@ use Rattle.std.specs.Prelude.{◌≡◌, ◌⊎◌, ◌+◌, ◌-◌, ◌≤◌,
 use Rattle.snl_meaning.specs.declared.instrs.Instr.{Instr}
 use Rattle.snl_meaning.specs.declared.instrs.Instr.TheVariants.{Push, Load, Store, Adjust, Increment, Apply, ApplyNumber, ApplyPrefix, Settle, Drop, Jump, JumpIfZero, Print, Assign}
 use Rattle.snl_meaning.specs.Names.{format_text}
-use Rattle.snl_flows.specs.Fine.{IsFineAt, LeadsTo, MayBecomeOther, MayGetOther, MayOverflow, PrefixMayOverflow, operands_at}
+use Rattle.snl_flows.specs.Fine.{IsFineAt, LeadsTo, MayBecomeOther, MayGetOther, MayOverflow, MayOverflowBy, PrefixMayOverflow, operands_at}
 use Rattle.snl_flows.specs.Tables.{Operand, Another, below, Flow, Ground, IsReached}
 use Rattle.snl_flows.specs.Texts.{IsNamed}
 
@@ -38,7 +38,7 @@ module _ (g : Ground) (set : ℕ) (f : Flow) where
   IsQuietAt base join at (Adjust v op op_line line is_before) = MayBecomeOther g set f v op op_line line × StaysIn base join at (at + 1) 0 1
   IsQuietAt base join at (Increment v op op_line line) = MayBecomeOther g set f v op op_line line × StaysIn base join at (at + 1) 0 0
   IsQuietAt base join at (Apply op line) = MayOverflow g.lines op line × StaysIn base join at (at + 1) 2 1
-  IsQuietAt base join at (ApplyNumber op z line) = MayOverflow g.lines op line × StaysIn base join at (at + 1) 1 1
+  IsQuietAt base join at (ApplyNumber op z line) = MayOverflowBy g.lines op z line × StaysIn base join at (at + 1) 1 1
   IsQuietAt base join at (ApplyPrefix op line) = PrefixMayOverflow g.lines op line × StaysIn base join at (at + 1) 1 1
   IsQuietAt base join at Settle = StaysIn base join at (at + 1) 1 1
   IsQuietAt base join at Drop = StaysIn base join at (at + 1) 1 0

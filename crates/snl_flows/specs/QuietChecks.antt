@@ -5,7 +5,7 @@ use Rattle.snl_meaning.specs.declared.instrs.Instr.TheVariants.{Push, Load, Stor
 use Rattle.snl_meaning.specs.declared.instrs.Variable.{Variable}
 use Rattle.snl_meaning.specs.Names.{format_text}
 use Rattle.snl_text.specs.declared.kinds.Kind.{Kind}
-use Rattle.snl_flows.specs.Checks.{is_fine_at, is_named, known_at, leads, may_get_other, may_overflow, prefix_may_overflow}
+use Rattle.snl_flows.specs.Checks.{is_fine_at, is_named, known_at, leads, may_get_other, may_overflow, may_overflow_by, prefix_may_overflow}
 use Rattle.snl_flows.specs.Quiet.{AreFine, height_at, join_at, others_on}
 use Rattle.snl_flows.specs.Tables.{below, Flow, Ground, facts_at}
 
@@ -27,7 +27,7 @@ module _ (g : Ground) (set : ℕ) (f : Flow) where
   is_quiet_at base join at (Adjust v op op_line line is_before) = may_become v op op_line line && stays_in base join at (at + 1) 0 1
   is_quiet_at base join at (Increment v op op_line line) = may_become v op op_line line && stays_in base join at (at + 1) 0 0
   is_quiet_at base join at (Apply op line) = may_overflow g.lines op line && stays_in base join at (at + 1) 2 1
-  is_quiet_at base join at (ApplyNumber op z line) = may_overflow g.lines op line && stays_in base join at (at + 1) 1 1
+  is_quiet_at base join at (ApplyNumber op z line) = may_overflow_by g.lines op z line && stays_in base join at (at + 1) 1 1
   is_quiet_at base join at (ApplyPrefix op line) = prefix_may_overflow g.lines op line && stays_in base join at (at + 1) 1 1
   is_quiet_at base join at Settle = stays_in base join at (at + 1) 1 1
   is_quiet_at base join at Drop = stays_in base join at (at + 1) 1 0
