@@ -10,11 +10,11 @@ use Rattle.snl_meaning.specs.Names.{format_text}
 use Rattle.snl_meaning.specs.Run.{Entry}
 use Rattle.snl_meaning.specs.Words.{element_place}
 use Rattle.snl_text.specs.declared.kinds.Kind.{Kind}
-use Rattle.snl_flows.specs.Checks.{are_all_same, are_bound, are_first_same, are_no_more, are_put, are_put_by, are_same_at, begins, is_bound, is_fine_at, is_named, is_printed, is_put, is_put_at, is_put_by, is_put_of, is_read, is_same_at, is_same_in, known_at, leads, leads_after, may_get_other, may_overflow, may_overflow_by, may_overflow_over, prefix_may_overflow}
-use Rattle.snl_flows.specs.Fine.{Begins, IsAnyElement, IsBound, IsFineAt, IsPrinted, IsPut, IsPutBy, LeadsTo, MayBecomeOther, settled_of}
+use Rattle.snl_flows.specs.Checks.{are_all_same, are_bound, are_first_same, are_taken, takes, is_no_more, are_no_more, are_put, are_put_by, are_same_at, begins, is_bound, is_fine_at, is_named, is_printed, is_put, is_put_at, is_put_by, is_put_of, is_read, is_same_at, is_same_in, known_at, leads, leads_after, may_get_other, may_overflow, may_overflow_by, may_overflow_over, prefix_may_overflow}
+use Rattle.snl_flows.specs.Fine.{AreTaken, Takes, Begins, IsAnyElement, IsBound, IsFineAt, IsPrinted, IsPut, IsPutBy, LeadsTo, MayBecomeOther, settled_of}
 use Rattle.snl_flows.specs.Outside.{has}
 use Rattle.snl_flows.specs.Tables.{Operand, Another, Same, Within, CanBe, IsSameIn, top_of, below, under, Flow, Ground, facts_at, said_at}
-use Rattle.snl_flows.proofs.Checks.{all-no-more, all-same, first-same, first-same-at, gets-other, leads-more, leads-one, leads-to, named-by, overflows, overflows-by, overflows-over, prefix-overflows, read-by, same-in, words-behind, words-same}
+use Rattle.snl_flows.proofs.Checks.{all-no-more, all-same, first-same, first-same-at, gets-other, leads-more, leads-one, leads-to, named-by, no-more, overflows, overflows-by, overflows-over, prefix-overflows, read-by, same-in, words-behind, words-same}
 
 module _ (g : Ground) (set : ℕ) (f : Flow) where
   -- ---- puts
@@ -112,6 +112,27 @@ module _ (g : Ground) (set : ℕ) (f : Flow) where
       by functions own true k known = all-bound e.parameters values true (said_at f e.start true) functions k known
       by functions own false k known = all-bound e.parameters values false (said_at f e.start false) own k known
 
+  -- a parameter's place is that of its first element
+  first-place : (v : Variable) → v.place ≡ v.place + 0
+  first-place v = omega arith
+
+  -- what parameters get
+  taken-by : (ps : List Variable) (values : ℕ) (os : List Operand) (line : ℕ) → are_taken g set f ps values os line ≡ true → AreTaken g set f ps values os line
+  taken-by [] values os line said = tt
+  taken-by (p ∷ ps) zero os line said = tt
+  taken-by (p ∷ ps) (suc values) os line said =
+      let parts = and_parts (is_same_in (top_of (under values os)) || may_get_other g set f p.is_shared p.place line) (are_taken g set f ps values os line) said in (
+        ⊎_elim (λ (same : is_same_in (top_of (under values os)) ≡ true). inl (same-in (top_of (under values os)) same))
+            (λ (other : may_get_other g set f p.is_shared p.place line ≡ true). inr (gets-other g set f p 0 p.place line (first-place p) other))
+            (or_cases (is_same_in (top_of (under values os))) (may_get_other g set f p.is_shared p.place line) parts.0),
+        taken-by ps values os line parts.1,
+      )
+
+  -- those of a function
+  takes-by : (o : Option Entry) (values : ℕ) (os : List Operand) (line : ℕ) → takes g set f o values os line ≡ true → Takes g set f o values os line
+  takes-by None values os line said = tt
+  takes-by (Some e) values os line said = taken-by e.parameters values os line said
+
   -- ---- instructions
 
   module _ (at : ℕ) where
@@ -205,10 +226,14 @@ module _ (g : Ground) (set : ℕ) (f : Flow) where
         (same-in (top_of os) parts.0, leads-one g set f at (at + 1) (below os) v element (v.place + element) refl parts.1))
         (with-test (may_get_other g set f v.is_shared (v.place + element) line) (at + 1) (below os) (gets-other g set f v element (v.place + element) line refl)) said
     fine-at (Call function n line) said =
-        let two = and_parts (are_all_same os && begins g set f (slice_get g.functions function) n) (leads g set f at (at + 1) []) said in
-        let one = and_parts (are_all_same os) (begins g set f (slice_get g.functions function) n) two.0 in
-        (all-same os one.0, begins-by (slice_get g.functions function) n one.1, leads-to g set f at (at + 1) [] two.1)
-    fine-at (Fit least greatest line) said = with-test (is_same_in (top_of os)) (at + 1) os (same-in (top_of os)) said
-    fine-at Return said = all-same os said
+        let o = slice_get g.functions function in
+        let three = and_parts (takes g set f o n os line && are_all_same (under n os) && begins g set f o n) (leads g set f at (at + 1) (f.given ∷ [])) said in
+        let two = and_parts (takes g set f o n os line && are_all_same (under n os)) (begins g set f o n) three.0 in
+        let one = and_parts (takes g set f o n os line) (are_all_same (under n os)) two.0 in
+        (takes-by o n os line one.0, all-same (under n os) one.1, begins-by o n two.1, leads-to g set f at (at + 1) (f.given ∷ []) three.1)
+    fine-at (Fit least greatest line) said =
+        with-test (is_same_in (top_of os) || has g.lines line) (at + 1) os (either (is_same_in (top_of os)) (has g.lines line) (same-in (top_of os)) (λ left. left)) said
+    fine-at Return said =
+        let parts = and_parts (is_no_more f.given (top_of os)) (are_all_same (below os)) said in (no-more f.given (top_of os) parts.0, all-same (below os) parts.1)
     fine-at (Leave state) said = tt
     fine-at End said = all-same os said

@@ -93,7 +93,7 @@ all-same [] said = tt
 all-same (o ∷ os) said = let parts = and_parts (is_same_in o) (are_all_same os) said in (same-in o parts.0, all-same os parts.1)
 
 -- no more is said of one
-no-more : (s h : Operand) → is_no_more s h ≡ true → IsNoMore s h
+pub no-more : (s h : Operand) → is_no_more s h ≡ true → IsNoMore s h
 no-more Another h said = tt
 no-more Same h said = same-in h said
 no-more (Within n) Another said = absurd (false≢true said)

@@ -11,17 +11,18 @@ use Rattle.snl_meaning.specs.Names.{format_text}
 use Rattle.snl_meaning.specs.Printing.{printed_line}
 use Rattle.snl_meaning.specs.Ran.{Ran, Gives, then_do}
 use Rattle.snl_meaning.specs.declared.faults.Fault.TheVariants.{DoesNotFit}
-use Rattle.snl_meaning.specs.Run.{Entry, PieceContext, GoesTo, EndsWith, goes, goes_with, on_top, pushes, done_by, calls}
+use Rattle.snl_meaning.specs.Run.{Entry, PieceContext, GoesTo, EndsWith, goes, goes_with, on_top, pushes, done_by}
 use Rattle.snl_meaning.specs.Words.{adjusted, cleared, element_place, fitted, gives, natural, operated, operated_prefix, printed, put_element, read, settled, spent, subscript, waited}
 use Rattle.snl_meaning.specs.World.{World}
 use Rattle.snl_alike.proofs.Linked.{agrees-printed, agrees-asked, agrees-ask_element}
-use Rattle.snl_flows.specs.Fine.{AreRead, Begins, IsAnyElement, IsFineAt, IsFirstSame, IsPrinted, LeadsTo, MayBecomeOther, MayOverflowBy, MayOverflowOver, PrefixMayOverflow, settled_of}
+use Rattle.snl_flows.specs.Fine.{AreRead, Begins, IsAnyElement, IsFineAt, IsFirstSame, IsPrinted, LeadsTo, MayBecomeOther, MayOverflowBy, MayOverflowOver, PrefixMayOverflow, Takes, settled_of}
 use Rattle.snl_flows.specs.LeftOut.{IsLeftOut}
+use Rattle.snl_flows.specs.Outside.{has}
 use Rattle.snl_flows.specs.Tables.{Operand, Another, Same, Within, IsSameIn, top_of, below, Flow, Ground, HasLinks}
 use Rattle.snl_flows.specs.Texts.{IsNamed, SameButValues}
 use Rattle.snl_flows.proofs.Kept.{settled-to, waited-to, SameKept}
 use Rattle.snl_flows.proofs.Operands.{HoldsOf, HoldOf, all-same, can-be, first-same, same-of}
-use Rattle.snl_flows.proofs.Operators.{operated-other-by, operated-other-over, outcome-to, prefix-other}
+use Rattle.snl_flows.proofs.Operators.{fitted-other, operated-other-by, operated-other-over, outcome-to, prefix-other}
 use Rattle.snl_flows.proofs.Outcomes.{AlikeTo, BothLead, lead, stop, test-to, then-to}
 use Rattle.snl_flows.proofs.Puts.{put-to, spent-to}
 use Rattle.snl_flows.proofs.Steps.{K, ops, At, Next, Holds, AreBack, IsOfGround, BothEnd, BothLeave, led, led-after, on, pushed, topped, two-topped, twice, free, known, apart, stores, assigns, stores-at, checked, jumped, taken, returned, called-on}
@@ -172,9 +173,12 @@ module _ (g : Ground) (f : Flow) (c : PieceContext) where
 
       fitted-to : (x y : ℤ) → HoldsOf o x y → AlikeTo g (Holds g f c at o) (fitted least greatest line x w) (fitted least greatest line y u)
       fitted-to x y top =
-          subst (λ (z : ℤ). AlikeTo g (Holds g f c at o) (fitted least greatest line x w) (fitted least greatest line z u)) (same-of o x y fine.0 top)
-          (test-to g (Holds g f c at o) (int_le least x && int_le x greatest) _ _ _ _ (lead g (Holds g f c at o) x x w u (subst (HoldsOf o x) (sym (same-of o x y fine.0 top)) top, e))
-          (stop g (Holds g f c at o) DoesNotFit line w u (same-outside g.hidden c.set (K g f c at) w u e)))
+          ⊎_elim
+          (λ (same : IsSameIn o).
+          subst (λ (z : ℤ). AlikeTo g (Holds g f c at o) (fitted least greatest line x w) (fitted least greatest line z u)) (same-of o x y same top)
+          (test-to g (Holds g f c at o) (int_le least x && int_le x greatest) _ _ _ _ (lead g (Holds g f c at o) x x w u (subst (HoldsOf o x) (sym (same-of o x y same top)) top, e))
+          (stop g (Holds g f c at o) DoesNotFit line w u (same-outside g.hidden c.set (K g f c at) w u e))))
+          (λ (left : has g.lines line ≡ true). fitted-other g c.set (K g f c at) o least greatest line x y w u left top e) fine.0
 
   -- ---- puts
 
@@ -222,10 +226,8 @@ module _ (g : Ground) (f : Flow) (c : PieceContext) where
   -- a call
   calls-on : (at function n line : ℕ) (s t : List ℤ) (w u : World) → AreBack f c.returns → IsOfGround g c → Does (Call function n line) at s t w u
   calls-on at function n line s t w u backs same fine h e =
-      subst (λ (x : List ℤ). AlikeTo g (Next g f c) (calls c (slice_get c.functions function) n line at s w) (calls c (slice_get c.functions function) n line at x u))
-      (all-same s t (ops g f c at) fine.0 h)
-      (called-on g f c (slice_get c.functions function) n line at s w u backs
-      (subst (λ (fs : List Entry). Begins g c.set f (slice_get fs function) n) same.functions fine.1) fine.2 e)
+      called-on g f c (slice_get c.functions function) n line at s t w u backs (subst (λ (fs : List Entry). Takes g c.set f (slice_get fs function) n (ops g f c at) line) same.functions fine.0) fine.1
+      (subst (λ (fs : List Entry). Begins g c.set f (slice_get fs function) n) same.functions fine.2) fine.3 h e
 
   -- each
   pub done-alike : (i : Instr) (at : ℕ) (s t : List ℤ) (w u : World) → HasLinks g w → AreBack f c.returns → IsOfGround g c → Does i at s t w u

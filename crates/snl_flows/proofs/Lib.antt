@@ -9,6 +9,7 @@ pub mod Alone
 pub mod Variables
 pub mod Kept
 pub mod Puts
+pub mod Calls
 pub mod Steps
 pub mod Instructions
 pub mod Quiet

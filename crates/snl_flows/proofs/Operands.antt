@@ -1,5 +1,5 @@
 -- Operands of two runs, of which something is known.
-use Rattle.std.proofs.Common.{◌≡◌, ◌∙◌, ◌<◌, refl, ap, arith, ℕ, zero, suc, ℤ, List, [], ◌∷◌, length, take, drop}
+use Rattle.std.proofs.Common.{◌≡◌, ◌∙◌, ◌<◌, refl, ap, subst, arith, ℕ, zero, suc, ℤ, pos, List, [], ◌∷◌, get_or, length, take, drop}
 use Rattle.snl_meaning.specs.Words.{natural}
 use Rattle.snl_flows.specs.Tables.{Operand, Another, Same, Within, IsSameIn, CanBe, top_of, below, under, AreFirstSame, AreAllSame, IsNoMore, AreNoMore}
 
@@ -74,6 +74,20 @@ all-same [] (y ∷ t) os is h = absurd h
 all-same (x ∷ s) [] os is h = absurd h
 all-same (x ∷ s) (y ∷ t) [] is h = both-same x y s t h.0 (all-same s t [] tt h.1)
 all-same (x ∷ s) (y ∷ t) (o ∷ os) is h = both-same x y s t (same-of o x y is.0 h.0) (all-same s t os is.1 h.1)
+
+-- what is known of one that is given holds of it on top of what is the same
+pub given-holds : (o : Operand) (s t : List ℤ) (os : List Operand) → IsNoMore o (top_of os) → AreAllSame (below os) → HoldOf os s t → HoldOf (o ∷ []) s t
+given-holds o [] [] os less all h = tt
+given-holds o [] (y ∷ t) os less all h = absurd h
+given-holds o (x ∷ s) [] os less all h = absurd h
+given-holds o (x ∷ s) (y ∷ t) os less all h = (no-more o (top_of os) x y less h.0, subst (HoldOf [] s) (all-same s t (below os) all h.1) (holds-of-same s))
+
+-- one of a number
+pub holds-at : (n : ℕ) (s t : List ℤ) (os : List Operand) → n < length s → HoldOf os s t → HoldsOf (top_of (under n os)) (get_or s n (pos 0)) (get_or t n (pos 0))
+holds-at n [] t os low h = absurd (omega (arith, low))
+holds-at n (x ∷ s) [] os low h = absurd h
+holds-at zero (x ∷ s) (y ∷ t) os low h = h.0
+holds-at (suc n) (x ∷ s) (y ∷ t) os low h = holds-at n s t (below os) (omega (arith, low)) h.1
 
 -- those below some
 pub under-of : (n : ℕ) (s t : List ℤ) (os : List Operand) → HoldOf os s t → HoldOf (under n os) (drop n s) (drop n t)

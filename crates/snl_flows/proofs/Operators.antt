@@ -1,14 +1,14 @@
 -- What operators make in two runs of operands that are the same, or of others.
 use Rattle.std.proofs.Common.{◌≡◌, refl, subst, sym, ℕ, ℤ, Bool, true, false, [], Result, Ok, Err, if◌then◌else◌}
-use Rattle.std.specs.Prelude.{neg_ℤ, ◌+ℤ◌, ◌-ℤ◌, ◌*ℤ◌, int_div, int_rem}
+use Rattle.std.specs.Prelude.{◌&&◌, neg_ℤ, ◌+ℤ◌, ◌-ℤ◌, ◌*ℤ◌, int_div, int_le, int_rem}
 use Rattle.snl_text.specs.declared.kinds.Kind.{Kind}
 use Rattle.snl_text.specs.declared.kinds.Kind.TheVariants as kind
 use Rattle.snl_arithmetic.specs.declared.arithmetic.ArithmeticFault as sum
 use Rattle.snl_arithmetic.specs.declared.arithmetic.ArithmeticFault.TheVariants as sum_fault
 use Rattle.snl_arithmetic.specs.Arithmetic.{divided, is_in_range, is_zero, in_range}
-use Rattle.snl_meaning.specs.declared.faults.Fault.TheVariants.{DivisionByZero, Overflow}
-use Rattle.snl_meaning.specs.Ran.{Gives}
-use Rattle.snl_meaning.specs.Words.{operated, operated_prefix, outcome_at, fault_of}
+use Rattle.snl_meaning.specs.declared.faults.Fault.TheVariants.{DivisionByZero, DoesNotFit, Overflow}
+use Rattle.snl_meaning.specs.Ran.{Faults, Gives}
+use Rattle.snl_meaning.specs.Words.{fitted, operated, operated_prefix, outcome_at, fault_of}
 use Rattle.snl_meaning.specs.World.{World}
 use Rattle.snl_flows.specs.Fine.{MayOverflow, MayOverflowBy, MayOverflowOver, PrefixMayOverflow}
 use Rattle.snl_flows.specs.Outside.{has}
@@ -40,6 +40,16 @@ module _ (g : Ground) (set : ℕ) (K : Bool → ℕ → Type 0) where
   -- numbers that never are
   outcome-free : (line : ℕ) (x y : ℤ) (w u : World) → SameOn g.hidden set K w u → AlikeTo g (Out Another) (Gives x w []) (Gives y u [])
   outcome-free line x y w u e = lead g (Out Another) x y w u (tt, e)
+
+  -- numbers that may not fit
+  pub fitted-other : (o : Operand) (least greatest : ℤ) (line : ℕ) (x y : ℤ) (w u : World) → has g.lines line ≡ true → HoldsOf o x y → SameOn g.hidden set K w u →
+      AlikeTo g (Out o) (fitted least greatest line x w) (fitted least greatest line y u)
+  fitted-other o least greatest line x y w u left h e = by (int_le least x && int_le x greatest) (int_le least y && int_le y greatest)
+    where
+      by : (b c : Bool) → AlikeTo g (Out o) (if b then Gives x w [] else Faults DoesNotFit line w []) (if c then Gives y u [] else Faults DoesNotFit line u [])
+      by true true = lead g (Out o) x y w u (h, e)
+      by true false = SecondStops DoesNotFit line u [] _ left
+      by false c = FirstStops DoesNotFit line w [] _ left
 
   -- a binary operator on others
   pub operated-other : (op : Kind) (line : ℕ) (x y a b : ℤ) (w u : World) → MayOverflow g.lines op line → SameOn g.hidden set K w u →

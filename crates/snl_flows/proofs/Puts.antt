@@ -1,24 +1,22 @@
 -- What a put does in two runs, and how a call begins.
-use Rattle.std.proofs.Common.{◌≡◌, ◌∙◌, ◌⊎◌, ◌+◌, ◌<◌, inl, inr, ⊎_elim, refl, sym, ap, subst, ℕ, suc, ℤ, pos, negsuc, Bool, true, false, List, [], ◌∷◌, length, Option, None, Some, if◌then◌else◌}
+use Rattle.std.proofs.Common.{◌≡◌, ◌∙◌, ◌⊎◌, ◌+◌, ◌<◌, inl, inr, ⊎_elim, refl, sym, ap, subst, ℕ, ℤ, pos, negsuc, Bool, true, false, List, [], Option, None, Some, if◌then◌else◌}
 use Rattle.std.specs.Prelude.{slice_get, slice_index_or, slice_set}
-use Rattle.snl_meaning.specs.declared.instrs.Variable.{Variable}
 use Rattle.snl_meaning.specs.declared.ties.Tied.{Tied}
 use Rattle.snl_meaning.specs.Links.{all_marked, enqueued, flagged, handed_over, is_queued, kept_for, link_at, link_from, marked, marked_from, queue_of, with_buffer}
 use Rattle.snl_meaning.specs.Printing.{put_line}
 use Rattle.snl_meaning.specs.Queues.{put_in}
-use Rattle.snl_meaning.specs.Words.{OnLink, at_number, at_tie, bound, called_with, put_async, put_by, put_out, put_word, spent, stored}
+use Rattle.snl_meaning.specs.Words.{OnLink, at_number, at_tie, put_async, put_by, put_out, put_word, spent}
 use Rattle.snl_meaning.specs.World.{Queue, SetMemory, World, copy_of, is_waiting, overwritten, with_waiting, words_at}
 use Rattle.snl_alike.proofs.Linked.{agrees-spent}
-use Rattle.snl_flows.specs.Fine.{IsBound, IsElement, IsPut, IsPutBy}
+use Rattle.snl_flows.specs.Fine.{IsPut, IsPutBy}
 use Rattle.snl_flows.specs.LeftOut.{IsLeftOut}
-use Rattle.snl_flows.specs.Tables.{Same, Flow, Ground, HasLinks, IsSameAt}
+use Rattle.snl_flows.specs.Tables.{Flow, Ground, HasLinks, IsSameAt}
 use Rattle.snl_flows.specs.Texts.{IsNamed, SameButValues}
 use Rattle.snl_flows.proofs.Agree.{agree-words}
 use Rattle.snl_flows.proofs.Kept.{Kept, keeps-words, plain, same-rest, SameKept}
-use Rattle.snl_flows.proofs.Outcomes.{AlikeTo, BothLead, lead, less-to, test-to, then-to}
+use Rattle.snl_flows.proofs.Outcomes.{AlikeTo, BothLead, lead, test-to}
 use Rattle.snl_flows.proofs.Texts.{one-line, one-put, put-ends}
-use Rattle.snl_flows.proofs.Variables.{Grows, With, stored-to}
-use Rattle.snl_flows.proofs.Worlds.{Known, SameOn, level, same-less, words-agree}
+use Rattle.snl_flows.proofs.Worlds.{Known, SameOn, level, words-agree}
 
 module _ (g : Ground) (set : ℕ) (K : Bool → ℕ → Type 0) where
   -- a number, and two worlds
@@ -172,28 +170,3 @@ module _ (g : Ground) (set : ℕ) where
   -- where a call begins
   abbrev pub Entered : (Bool → ℕ → Type 0) → Unit {0} → Unit {0} → World → World → Type 0
   Entered L _ _ = SameOn g.hidden set L
-
-  -- values into parameters: so many are known then
-  bound-to : (ps : List Variable) (line : ℕ) (zs : List ℤ) (K : Bool → ℕ → Type 0) (w u : World) → SameOn g.hidden set K w u →
-      AlikeTo {A = Unit {0}} g (Entered (With K (IsBound ps (length zs)))) (bound set ps line zs w) (bound set ps line zs u)
-  bound-to [] line zs K w u e =
-      lead g {A = Unit {0}} (Entered (With K (IsBound [] (length zs)))) tt tt w u (same-less g.hidden set K _ w u (λ b j known. ⊎_elim (λ p. p) (λ (q : ⊥). absurd q) known) e)
-  bound-to (p ∷ ps) line [] K w u e =
-      lead g {A = Unit {0}} (Entered (With K (IsBound (p ∷ ps) 0))) tt tt w u (same-less g.hidden set K _ w u (λ b j known. ⊎_elim (λ x. x) (λ (q : ⊥). absurd q) known) e)
-  bound-to (p ∷ ps) line (z ∷ zs) K w u e =
-      let W : Bool → ℕ → Type 0 = IsElement p 0 in
-      then-to g {B = Unit {0}} (Grows g set K W Same) (Entered (With K (IsBound (p ∷ ps) (suc (length zs))))) (stored set p line (pos 0) z w) (stored set p line (pos 0) z u)
-      (λ _ x. bound set ps line zs x) (λ _ x. bound set ps line zs x) (stored-to g set K Same p line (pos 0) z z w u tt refl e)
-      (λ _ _ x y h. less-to g {A = Unit {0}} (Entered (With (With K W) (IsBound ps (length zs)))) (Entered (With K (IsBound (p ∷ ps) (suc (length zs))))) (bound set ps line zs x)
-      (bound set ps line zs y)
-      (λ _ _ s t more. same-less g.hidden set (With (With K W) (IsBound ps (length zs))) _ s t
-      (λ b j known. ⊎_elim (λ q. inl (inl q)) (λ (q : IsElement p 0 b j ⊎ IsBound ps (length zs) b j). ⊎_elim (λ one. inl (inr one)) (λ others. inr others) q) known) more)
-      (bound-to ps line zs (With K W) x y h.1))
-
-  -- how a call begins
-  pub called-to : (ps : List Variable) (line : ℕ) (zs : List ℤ) (K : Bool → ℕ → Type 0) (w u : World) → SameOn g.hidden set K w u →
-      AlikeTo {A = Unit {0}} g (Entered (With K (IsBound ps (length zs)))) (called_with set ps line zs w) (called_with set ps line zs u)
-  called-to ps line zs K w u e =
-      then-to g {A = Unit {0}} {B = Unit {0}} (SameKept g set K) (Entered (With K (IsBound ps (length zs)))) (spent line w) (spent line u) (λ _ x. bound set ps line zs x)
-      (λ _ x. bound set ps line zs x)
-      (spent-to g set K line w u e) (λ _ _ x y h. bound-to ps line zs K x y h.1)

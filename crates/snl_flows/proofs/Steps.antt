@@ -1,8 +1,7 @@
 -- What an instruction does in two runs, where a table is right at its address.
-use Rattle.std.proofs.Common.{◌≡◌, ◌∙◌, ◌⊎◌, ◌+◌, ◌≤◌, ◌<◌, inl, inr, ⊎_elim, refl, sym, ap, subst, ℕ, ℤ, pos, negsuc, Bool, true, false, List, [], ◌∷◌, Option, None, Some, length, reverse, take, drop, if◌then◌else◌}
+use Rattle.std.proofs.Common.{◌≡◌, ◌∙◌, ◌⊎◌, ◌+◌, ◌≤◌, ◌<◌, inl, inr, ⊎_elim, refl, sym, ap, subst, arith, ℕ, ℤ, pos, negsuc, Bool, true, false, List, [], ◌∷◌, Option, None, Some, length, reverse, take, drop, if◌then◌else◌}
 use Rattle.std.specs.Prelude.{nat_le, nat_lt}
 use Rattle.std.proofs.lemmas.Bool.{leb-true, ltb-true}
-use Rattle.std.proofs.lemmas.List.{length-reverse, length-take-le}
 use Rattle.snl_arithmetic.specs.Arithmetic.{is_zero}
 use Rattle.snl_meaning.specs.declared.faults.Fault.TheVariants.{OutOfRange}
 use Rattle.snl_meaning.specs.declared.instrs.Instr.TheVariants.{Store, StoreAt, Assign}
@@ -12,15 +11,16 @@ use Rattle.snl_meaning.specs.Run.{Entry, PieceContext, Step, GoesTo, GoesOver, E
 use Rattle.snl_meaning.specs.Words.{called_with, is_subscript, natural, stored, subscript}
 use Rattle.snl_meaning.specs.World.{World}
 use Rattle.snl_alike.specs.TwoRuns.{Agrees, KeepsAlike}
-use Rattle.snl_flows.specs.Fine.{Begins, IsBound, IsElement, IsFineAt, LeadsAfter, LeadsTo, MayGetOther}
+use Rattle.snl_flows.specs.Fine.{AreTaken, Begins, IsElement, IsFineAt, LeadsAfter, LeadsTo, MayGetOther, Takes}
 use Rattle.snl_flows.specs.LeftOut.{IsLeftOut}
 use Rattle.snl_flows.specs.Outside.{has, places_of, IsSameOutside}
-use Rattle.snl_flows.specs.Tables.{Operand, Same, Within, IsSameIn, top_of, below, under, AreAllSame, AreNoMore, Flow, Ground, IsOpen, IsReached, IsSameAt, MayDiffer, facts_at, is_loose, said_at}
+use Rattle.snl_flows.specs.Tables.{Operand, Same, Within, IsSameIn, top_of, below, under, AreAllSame, IsNoMore, AreNoMore, Flow, Ground, IsOpen, IsReached, IsSameAt, MayDiffer, facts_at, is_loose, said_at}
 use Rattle.snl_flows.specs.Texts.{IsInLine, SameButValues}
 use Rattle.snl_flows.proofs.Kept.{keeps-words, plain, SameKept}
-use Rattle.snl_flows.proofs.Operands.{HoldsOf, HoldOf, all-same, as-many, holds-of-same, no-more-of, same-of, under-of}
+use Rattle.snl_flows.proofs.Operands.{HoldsOf, HoldOf, all-same, as-many, given-holds, holds-of-same, no-more-of, same-of, under-of}
 use Rattle.snl_flows.proofs.Outcomes.{AlikeTo, lead, less-to, stop, test-to, then-to}
-use Rattle.snl_flows.proofs.Puts.{Entered, called-to}
+use Rattle.snl_flows.proofs.Calls.{Bound, calls-to}
+use Rattle.snl_flows.proofs.Puts.{Entered}
 use Rattle.snl_flows.proofs.Variables.{Grows, Stays, With, stored-other, stored-to}
 use Rattle.snl_flows.proofs.Worlds.{Known, SameOn, same-less, same-outside}
 
@@ -39,10 +39,10 @@ pub record IsOfGround (g : Ground) (c : PieceContext) : Type 0 where
   pub formats : g.formats ≡ c.formats
   pub named : IsInLine c.name
 
--- Nothing is said of the operands where calls go on but that they are the same.
+-- Where calls go on no more is said of the operands than what is known of what functions give, and that all below it are the same.
 abbrev pub AreBack : Flow → List ℕ → Type 0
 AreBack f [] = Unit {0}
-AreBack f (at ∷ more) = AreNoMore (facts_at f at).operands [] × IsReached f at × AreBack f more
+AreBack f (at ∷ more) = AreNoMore (facts_at f at).operands (f.given ∷ []) × IsReached f at × AreBack f more
 
 -- Two steps lead to the same address, with operands and worlds of which the table is right; both end with the same operands; both leave
 -- for the same state; or both stick.
@@ -249,47 +249,56 @@ module _ (g : Ground) (f : Flow) (c : PieceContext) where
       rest = under-of n s t (ops at) h
 
   -- a return
-  pub returned : (returns : List ℕ) (at : ℕ) (s t : List ℤ) (w u : World) → AreAllSame (ops at) → AreBack f returns → HoldOf (ops at) s t → SameOn g.hidden c.set (Here f (at ∷ returns)) w u →
-      AlikeTo g Next (returns_to returns s w) (returns_to returns t u)
+  pub returned : (returns : List ℕ) (at : ℕ) (s t : List ℤ) (w u : World) → IsNoMore f.given (top_of (ops at)) × AreAllSame (below (ops at)) → AreBack f returns → HoldOf (ops at) s t →
+      SameOn g.hidden c.set (Here f (at ∷ returns)) w u → AlikeTo g Next (returns_to returns s w) (returns_to returns t u)
   returned [] at s t w u all backs h e = lead g Next Sticks Sticks w u (BothStick w u (same-outside g.hidden c.set (Here f (at ∷ [])) w u e))
   returned (back ∷ returns) at s t w u all backs h e =
-      subst (λ (x : List ℤ). AlikeTo g Next (Gives (GoesOver returns back s) w []) (Gives (GoesOver returns back x) u [])) (all-same s t (ops at) all h)
-      (lead g Next _ _ w u (BothGoOver returns back s s w u backs.2 backs.1 (no-more-of s s (ops back) [] backs.0 (holds-of-same s))
-      (same-less g.hidden c.set (Here f (at ∷ back ∷ returns)) (Here f (back ∷ returns)) w u (λ b k said. (said.0, inr said.1)) e)))
-
-  -- how many numbers a call takes
-  many-taken : (n : ℕ) (s : List ℤ) → n ≤ length s → length (reverse (take n s)) ≡ n
-  many-taken n s low = length-reverse (take n s) ∙ length-take-le n s low
+      lead g Next _ _ w u (BothGoOver returns back s t w u backs.2 backs.1
+      (no-more-of s t (ops back) (f.given ∷ []) backs.0 (given-holds f.given s t (ops at) all.0 all.1 h))
+      (same-less g.hidden c.set (Here f (at ∷ back ∷ returns)) (Here f (back ∷ returns)) w u (λ b k said. (said.0, inr said.1)) e))
 
   -- a call
-  pub called-on : (e : Option Entry) (n line at : ℕ) (s : List ℤ) (w u : World) → AreBack f c.returns → Begins g c.set f e n → LeadsTo g c.set f at (at + 1) [] → At at w u →
-      AlikeTo g Next (calls c e n line at s w) (calls c e n line at s u)
-  called-on None n line at s w u backs begins leads e = stuck at w u e
-  called-on (Some x) n line at s w u backs begins leads e = by (nat_le n (length s)) refl
+  module _ (x : Entry) (n line at : ℕ) (s t : List ℤ) (w u : World) (backs : AreBack f c.returns) (taken : AreTaken g c.set f x.parameters n (ops at) line) (all : AreAllSame (under n (ops at)))
+      (begins : Begins g c.set f (Some x) n) (leads : LeadsTo g c.set f at (at + 1) (f.given ∷ [])) (h : HoldOf (ops at) s t) (e : At at w u) where
+    -- where it goes on
+    abbrev others : List ℕ
+    others = (at + 1) ∷ c.returns
+
+    -- the operands below its values
+    same-below : drop n s ≡ drop n t
+    same-below = all-same (drop n s) (drop n t) (under n (ops at)) all (under-of n s t (ops at) h)
+
+    -- what is known where the function begins
+    entered : (p q : World) → SameOn g.hidden c.set (With (K at) (Bound g f c.set x.parameters n)) p q → SameOn g.hidden c.set (Here f (x.start ∷ others)) p q
+    entered p q known =
+        same-less g.hidden c.set (With (K at) (Bound g f c.set x.parameters n)) (Here f (x.start ∷ others)) p q
+        (λ b k said. ⊎_elim (λ here. inr (begins.2 b k here, said.0))
+        (λ (more : IsSaidAt f others b k). inl (said.0, ⊎_elim (λ back. inl (leads.2 b k back)) (λ later. inr later) more)) said.1) known
+
+    -- it
+    call-alike : n ≤ length s → AlikeTo g Next (then_do (called_with c.set x.parameters line (reverse (take n s)) w) (goes_over others x.start (drop n s)))
+        (then_do (called_with c.set x.parameters line (reverse (take n t)) u) (goes_over others x.start (drop n t)))
+    call-alike low =
+        let many : length s ≡ length t = as-many s t (ops at) h in
+        then-to g {A = Unit {0}} (Entered g c.set (With (K at) (Bound g f c.set x.parameters n))) Next (called_with c.set x.parameters line (reverse (take n s)) w)
+        (called_with c.set x.parameters line (reverse (take n t)) u) (goes_over others x.start (drop n s)) (goes_over others x.start (drop n t))
+        (calls-to g f c.set x.parameters line n s t (ops at) (K at) w u (λ b k known. known.0) taken low (omega (arith, low, many)) h e)
+        (λ _ _ p q known. lead g Next _ _ p q (BothGoOver others x.start (drop n s) (drop n t) p q (leads.0, leads.1, backs) begins.1
+        (no-more-of (drop n s) (drop n t) (ops x.start) [] begins.0 (subst (HoldOf [] (drop n s)) same-below (holds-of-same (drop n s)))) (entered p q known)))
+
+  -- a call, if there is a function
+  pub called-on : (o : Option Entry) (n line at : ℕ) (s t : List ℤ) (w u : World) → AreBack f c.returns → Takes g c.set f o n (ops at) line → AreAllSame (under n (ops at)) →
+      Begins g c.set f o n → LeadsTo g c.set f at (at + 1) (f.given ∷ []) → HoldOf (ops at) s t → At at w u → AlikeTo g Next (calls c o n line at s w) (calls c o n line at t u)
+  called-on None n line at s t w u backs taken all begins leads h e = stuck at w u e
+  called-on (Some x) n line at s t w u backs taken all begins leads h e =
+      subst (λ (m : ℕ). AlikeTo g Next (calls c (Some x) n line at s w)
+      (if nat_le n m then with_place c u (then_do (called_with c.set x.parameters line (reverse (take n t)) u) (goes_over ((at + 1) ∷ c.returns) x.start (drop n t))) else Gives Sticks u []))
+      (as-many s t (ops at) h) (by (nat_le n (length s)) refl)
     where
-      zs : List ℤ
-      zs = reverse (take n s)
-
-      -- what is known where the function begins
-      entered : (n ≤ length s) → (p q : World) → SameOn g.hidden c.set (With (K at) (IsBound x.parameters (length (reverse (take n s))))) p q →
-          SameOn g.hidden c.set (Here f (x.start ∷ (at + 1) ∷ c.returns)) p q
-      entered low p q h =
-          same-less g.hidden c.set (With (K at) (IsBound x.parameters (length (reverse (take n s))))) (Here f (x.start ∷ (at + 1) ∷ c.returns)) p q
-          (λ b k said. ⊎_elim (λ here. inr (subst (λ (m : ℕ). IsBound x.parameters m b k) (sym (many-taken n s low)) (begins.2 b k here)))
-          (λ (more : IsSaidAt f ((at + 1) ∷ c.returns) b k). inl (said.0, ⊎_elim (λ back. inl (leads.2 b k back)) (λ others. inr others) more)) said.1) h
-
-      -- the call
-      call : (n ≤ length s) → AlikeTo g Next (then_do (called_with c.set x.parameters line zs w) (goes_over ((at + 1) ∷ c.returns) x.start (drop n s)))
-          (then_do (called_with c.set x.parameters line zs u) (goes_over ((at + 1) ∷ c.returns) x.start (drop n s)))
-      call low =
-          then-to g {A = Unit {0}} (Entered g c.set (With (K at) (IsBound x.parameters (length zs)))) Next (called_with c.set x.parameters line zs w) (called_with c.set x.parameters line zs u)
-          (goes_over ((at + 1) ∷ c.returns) x.start (drop n s)) (goes_over ((at + 1) ∷ c.returns) x.start (drop n s))
-          (called-to g c.set x.parameters line zs (K at) w u e)
-          (λ _ _ p q h. lead g Next _ _ p q (BothGoOver ((at + 1) ∷ c.returns) x.start (drop n s) (drop n s) p q (leads.0, leads.1, backs) begins.1
-          (no-more-of (drop n s) (drop n s) (ops x.start) [] begins.0 (holds-of-same (drop n s))) (entered low p q h)))
-
       by : (b : Bool) → nat_le n (length s) ≡ b →
-          AlikeTo g Next (if b then with_place c w (then_do (called_with c.set x.parameters line zs w) (goes_over ((at + 1) ∷ c.returns) x.start (drop n s))) else Gives Sticks w [])
-          (if b then with_place c u (then_do (called_with c.set x.parameters line zs u) (goes_over ((at + 1) ∷ c.returns) x.start (drop n s))) else Gives Sticks u [])
-      by true p = test-to g Next (nat_lt (length c.returns) (length c.functions)) _ _ _ _ (call (leb-true n (length s) p)) (stuck at w u e)
+          AlikeTo g Next
+          (if b then with_place c w (then_do (called_with c.set x.parameters line (reverse (take n s)) w) (goes_over ((at + 1) ∷ c.returns) x.start (drop n s))) else Gives Sticks w [])
+          (if b then with_place c u (then_do (called_with c.set x.parameters line (reverse (take n t)) u) (goes_over ((at + 1) ∷ c.returns) x.start (drop n t))) else Gives Sticks u [])
+      by true p =
+          test-to g Next (nat_lt (length c.returns) (length c.functions)) _ _ _ _ (call-alike x n line at s t w u backs taken all begins leads h e (leb-true n (length s) p)) (stuck at w u e)
       by false p = stuck at w u e

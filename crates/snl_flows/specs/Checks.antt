@@ -212,6 +212,17 @@ module _ (g : Ground) (set : ℕ) (f : Flow) where
       are_no_more (known_at e.start) [] && (facts_at f e.start).is_reached && are_bound e.parameters values true (said_at f e.start true) && are_bound e.parameters values false
       (said_at f e.start false)
 
+  -- Whether each parameter gets what is the same, of so many values on top, or may get another one,
+  abbrev pub are_taken : List Variable → (values : ℕ) → List Operand → (line : ℕ) → Bool
+  are_taken [] values os line = true
+  are_taken (p ∷ ps) zero os line = true
+  are_taken (p ∷ ps) (suc values) os line = (is_same_in (top_of (under values os)) || may_get_other p.is_shared p.place line) && are_taken ps values os line
+
+  -- and whether it is so of a function.
+  abbrev pub takes : Option Entry → (values : ℕ) → List Operand → (line : ℕ) → Bool
+  takes None values os line = true
+  takes (Some e) values os line = are_taken e.parameters values os line
+
   -- ---- instructions
 
   -- Whether what a table says of an instruction at an address is right.
@@ -256,8 +267,10 @@ module _ (g : Ground) (set : ℕ) (f : Flow) where
   is_fine_at at (Assign v element line) =
       (is_same_in (top_of (known_at at)) && leads_after at (at + 1) (below (known_at at)) v (v.place + element) 1)
       || (may_get_other v.is_shared (v.place + element) line && leads at (at + 1) (below (known_at at)))
-  is_fine_at at (Call function n line) = are_all_same (known_at at) && begins (slice_get g.functions function) n && leads at (at + 1) []
-  is_fine_at at (Fit least greatest line) = is_same_in (top_of (known_at at)) && leads at (at + 1) (known_at at)
-  is_fine_at at Return = are_all_same (known_at at)
+  is_fine_at at (Call function n line) =
+      takes (slice_get g.functions function) n (known_at at) line && are_all_same (under n (known_at at)) && begins (slice_get g.functions function) n
+      && leads at (at + 1) (f.given ∷ [])
+  is_fine_at at (Fit least greatest line) = (is_same_in (top_of (known_at at)) || has g.lines line) && leads at (at + 1) (known_at at)
+  is_fine_at at Return = is_no_more f.given (top_of (known_at at)) && are_all_same (below (known_at at))
   is_fine_at at (Leave state) = true
   is_fine_at at End = are_all_same (known_at at)

@@ -5,7 +5,7 @@ use Rattle.snl_meaning.specs.declared.instrs.Instr.{Instr}
 use Rattle.snl_meaning.specs.declared.instrs.Instr.TheVariants.{Push, Load, Store, Increment, Drop, JumpIfZero, Leave, End}
 use Rattle.snl_meaning.specs.declared.instrs.Variable.{Variable}
 use Rattle.snl_flows.specs.Quiet.{AreFine}
-use Rattle.snl_flows.specs.Tables.{Facts, Flow, Ground, first_facts}
+use Rattle.snl_flows.specs.Tables.{Facts, Flow, Ground, Same, first_facts}
 
 -- A variable of the copy, at word 3, the only one that is hidden.
 abbrev pub own : Variable
@@ -29,7 +29,7 @@ writes_first = Push (pos 7) ∷ Store own 12 ∷ Drop ∷ Load own ∷ JumpIfZer
 
 -- Tables that say nothing where a piece begins.
 abbrev pub begins_empty : List Facts → List ℕ → Flow
-begins_empty rows loose = record { rows = first_facts ∷ rows; loose = loose; loose_words = []; heights = []; joins = [] }
+begins_empty rows loose = record { rows = first_facts ∷ rows; loose = loose; loose_words = []; heights = []; joins = []; given = Same }
 
 -- What is said where the variable is the same since it was written.
 abbrev pub now_same : Facts

@@ -12,7 +12,7 @@ use Rattle.snl_meaning.specs.Names.{format_text}
 use Rattle.snl_meaning.specs.Run.{Entry}
 use Rattle.snl_meaning.specs.Words.{element_place}
 use Rattle.snl_flows.specs.Outside.{has, places_of}
-use Rattle.snl_flows.specs.Tables.{Operand, Another, Same, Within, IsSameIn, CanBe, top_of, below, under, AreFirstSame, AreAllSame, AreNoMore, Flow, Ground, MayDiffer, IsReached, IsSameAt, facts_at, said_at}
+use Rattle.snl_flows.specs.Tables.{Operand, Another, Same, Within, IsSameIn, CanBe, top_of, below, under, AreFirstSame, AreAllSame, IsNoMore, AreNoMore, Flow, Ground, MayDiffer, IsReached, IsSameAt, facts_at, said_at}
 use Rattle.snl_flows.specs.Texts.{IsNamed}
 
 -- ---- words that are written
@@ -134,6 +134,18 @@ module _ (g : Ground) (set : ℕ) (f : Flow) where
   Begins None values = Unit {0}
   Begins (Some e) values = AreNoMore (operands_at e.start) [] × IsReached f e.start × ((b : Bool) (k : ℕ) → has (said_at f e.start b) k ≡ true → IsBound e.parameters values b k)
 
+  -- Of so many values on top, the last one topmost, each parameter gets what is the same, or may get another one, by a call that is charged to a
+  -- line.
+  abbrev pub AreTaken : List Variable → (values : ℕ) → List Operand → (line : ℕ) → Type 0
+  AreTaken [] values os line = Unit {0}
+  AreTaken (p ∷ ps) zero os line = Unit {0}
+  AreTaken (p ∷ ps) (suc values) os line = (IsSameIn (top_of (under values os)) ⊎ MayGetOther p 0 line) × AreTaken ps values os line
+
+  -- So it is of a function, if there is one.
+  abbrev pub Takes : Option Entry → (values : ℕ) → List Operand → (line : ℕ) → Type 0
+  Takes None values os line = Unit {0}
+  Takes (Some e) values os line = AreTaken e.parameters values os line
+
   -- ---- instructions
 
   -- What a table says of an instruction at an address is right, if it is of the address.
@@ -179,8 +191,10 @@ module _ (g : Ground) (set : ℕ) (f : Flow) where
   IsFineAt at (Assign v element line) =
       (IsSameIn (top_of (operands_at at)) × LeadsAfter at (at + 1) (below (operands_at at)) (IsElement v element))
       ⊎ (MayGetOther v element line × LeadsTo at (at + 1) (below (operands_at at)))
-  IsFineAt at (Call function n line) = AreAllSame (operands_at at) × Begins (slice_get g.functions function) n × LeadsTo at (at + 1) []
-  IsFineAt at (Fit least greatest line) = IsSameIn (top_of (operands_at at)) × LeadsTo at (at + 1) (operands_at at)
-  IsFineAt at Return = AreAllSame (operands_at at)
+  IsFineAt at (Call function n line) =
+      Takes (slice_get g.functions function) n (operands_at at) line × AreAllSame (under n (operands_at at)) × Begins (slice_get g.functions function) n
+      × LeadsTo at (at + 1) (f.given ∷ [])
+  IsFineAt at (Fit least greatest line) = (IsSameIn (top_of (operands_at at)) ⊎ (has g.lines line ≡ true)) × LeadsTo at (at + 1) (operands_at at)
+  IsFineAt at Return = IsNoMore f.given (top_of (operands_at at)) × AreAllSame (below (operands_at at))
   IsFineAt at (Leave state) = Unit {0}
   IsFineAt at End = AreAllSame (operands_at at)

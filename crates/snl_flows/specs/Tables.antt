@@ -83,17 +83,18 @@ first_facts = record { is_reached = true; own = []; functions = []; operands = [
 
 -- What is known of the code where pieces of a state set run: a row for each address; and the hidden words of the own copy, and the words of
 -- functions, that may get what is not the same. Of these nothing is known, whatever rows say. By address, how many operands the code has
--- there, and where the two ways of a jump come together, if no matter which of them is gone.
+-- there, and where the two ways of a jump come together, if no matter which of them is gone; and what is known of what functions give.
 pub record Flow : Type 0 where
   pub rows : List Facts
   pub loose : List ℕ
   pub loose_words : List ℕ
   pub heights : List ℕ
   pub joins : List ℕ
+  pub given : Operand
 
 -- Of a state set of which nothing is said.
 abbrev pub no_flow : Flow
-no_flow = record { rows = []; loose = []; loose_words = []; heights = []; joins = [] }
+no_flow = record { rows = []; loose = []; loose_words = []; heights = []; joins = []; given = Same }
 
 -- What holds for all state sets: by state set the hidden places of its copy; the lines of which overflows, and values that do not fit, are
 -- left out; the channels whose puts may have other values, and the strings of the `printf`s that may; what a program's channels are named,
