@@ -145,7 +145,7 @@ HELPERS = {
     "greater": ["long {greater}(long a, long b) {{ return a > b ? a : b; }}"],
     "rounded": [
         "/* a / b, to the nearest whole number, halves away from 0 */",
-        "long {rounded}(long a, long b) {{ return (a < 0) == (b < 0) ? (a + b / 2) / b : (a - b / 2) / b; }}",
+        "long {rounded}(long a, long b) {{ return (a + ((a < 0) == (b < 0) ? b / 2 : -(b / 2))) / b; }}",
     ],
     "rounded_down": [
         "/* a / b, to the whole number below */",
