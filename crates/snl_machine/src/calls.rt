@@ -113,13 +113,14 @@ impl Machine {
         ensures failures { S.failures sink.new
             ≡ counted (stopped_by_sink result) (S.failures sink.old) }
     {
+        let code = self.code.code();
         let program = ProgramContext {
+            code: self.code.fused(),
             plan: &self.plan,
-            code: self.code.instrs(),
             context: CodeContext {
                 formats: self.formats.as_slice(),
-                functions: self.code.functions(),
-                room: self.code.depth(),
+                functions: code.functions(),
+                room: code.depth(),
             },
             budget: self.budget,
         };

@@ -12,7 +12,7 @@ impl Machine {
     pub fn code(&self) -> &Code
         ensures { result.now ≡ self.now.code }
     {
-        &self.code
+        self.code.code()
     }
 
     /// What its state sets and its links are.

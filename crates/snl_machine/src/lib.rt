@@ -5,6 +5,7 @@
 #![tactic(auto)]
 
 mod calls;
+mod fused;
 pub mod laws;
 mod lending;
 mod loading;

@@ -9,8 +9,8 @@ ghost use Rattle.snl_schedule.specs.Loaded.{CanRunLoaded};
 ghost use Rattle.snl_machine.specs.Holding.{loaded_by};
 ghost use Rattle.snl_schedule.proofs.Facts.{loaded-fact};
 
+use crate::fused::FusedProgram;
 use indexmap::IndexSet;
-use snl_flat::Code;
 use snl_output::Format;
 use snl_schedule::Plan;
 use snl_vm::Memory;
@@ -19,7 +19,8 @@ use snl_vm::Memory;
 pub struct Machine {
     /// What the state sets and the links are.
     pub(crate) plan: Plan,
-    pub(crate) code: Code,
+    /// Its code.
+    pub(crate) code: FusedProgram,
     /// The formats of the code, cut at their numbers.
     pub(crate) formats: Vec<Format>,
     /// The names of the channels, by their numbers.

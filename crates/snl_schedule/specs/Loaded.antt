@@ -25,7 +25,7 @@ pub record Loaded : Type 0 where
 abbrev pub loaded : ProgramContext → Loaded
 loaded t = record {
   plan = t.plan.now;
-  code = t.code.now;
+  code = t.code;
   formats = formats_of t.context;
   functions = entries t.context.functions.now;
   room = t.context.room;

@@ -62,7 +62,7 @@ fn round<S: Sink, L: Ledger>(
         };
         let state_set = SetContext {
             plan,
-            code: program.code,
+            code: &program.code,
             context,
         };
         match turn(&state_set, memory, sink, steps) {

@@ -8,8 +8,8 @@ ghost use Rattle.snl_schedule.specs.Linked.{HasRows};
 ghost use Rattle.std.proofs.Props.{props};
 
 use crate::goes::Goes;
-use snl_meaning::{Instr, Tied};
-use snl_vm::{CodeContext, PieceContext, Rows, Test};
+use snl_meaning::Tied;
+use snl_vm::{CodeContext, FusedCode, PieceContext, Rows, Test};
 use std::alloc::{AllocError, Global};
 
 /// Where a clause leads (SNL Reference, "State Transitions").
@@ -111,7 +111,7 @@ pub struct SetContext<'t> {
     /// The state set.
     pub plan: &'t SetPlan,
     /// The code of the program.
-    pub code: &'t [Instr],
+    pub code: &'t FusedCode<'t>,
     /// The number and the name of the state set, and what all code of the program runs with.
     pub context: PieceContext<'t>,
     ghost named: { context.name.now ≡ plan.now.name.items } by { Prim.hlevel props },
@@ -193,12 +193,12 @@ impl Plan {
 }
 
 /// What an instant of a program runs on.
-#[derive(Clone, Copy)]
+#[derive(Drop)]
 pub struct ProgramContext<'t> {
+    /// The code of the program.
+    pub code: FusedCode<'t>,
     /// Of the program.
     pub plan: &'t Plan,
-    /// The code of the program.
-    pub code: &'t [Instr],
     /// What all its code runs with.
     pub context: CodeContext<'t>,
     /// How many ticks an instant may take.

@@ -152,7 +152,7 @@ fn begin_sets<S: Sink, L: Ledger>(
         };
         let state_set = SetContext {
             plan,
-            code: program.code,
+            code: &program.code,
             context,
         };
         match begin(&state_set, memory, sink, steps) {
@@ -200,9 +200,15 @@ fn enter_program<S: Sink, L: Ledger>(
         program.now.plan.now.blocks.entry (world_of memory.old.store)) steps.old steps.new }
     ensures keeps { Keeps S.failures result memory.old memory.new sink.old sink.new }
 {
-    let ProgramContext { plan, code, .. } = *program;
     let own = own_context(program);
-    do_told(plan.blocks.entry, code, &own, memory, sink, steps)
+    do_told(
+        program.plan.blocks.entry,
+        &program.code,
+        &own,
+        memory,
+        sink,
+        steps,
+    )
 }
 
 /// The program's exit block.
@@ -220,9 +226,15 @@ pub fn leave_program<S: Sink, L: Ledger>(
         program.now.plan.now.blocks.exit (world_of memory.old.store)) steps.old steps.new }
     ensures keeps { Keeps S.failures result memory.old memory.new sink.old sink.new }
 {
-    let ProgramContext { plan, code, .. } = *program;
     let own = own_context(program);
-    do_told(plan.blocks.exit, code, &own, memory, sink, steps)
+    do_told(
+        program.plan.blocks.exit,
+        &program.code,
+        &own,
+        memory,
+        sink,
+        steps,
+    )
 }
 
 /// What follows the line of the start: refresh, the program's entry block, first states.

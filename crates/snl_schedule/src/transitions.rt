@@ -15,9 +15,8 @@ ghost use Rattle.snl_schedule.specs.Turn as spec;
 
 use crate::goes::{name_at, target_name};
 use crate::plans::{ClausePlan, Destination, SetContext, SetPlan};
-use snl_meaning::Instr;
 use snl_output::{Sink, SinkFault, Stop, Went, write_go, write_timed};
-use snl_vm::{Memory, PieceContext, Steps, Store, pass_by, perform, spend};
+use snl_vm::{FusedCode, Memory, PieceContext, Steps, Store, pass_by, perform, spend};
 use std::sync::ledger::Ledger;
 
 /// How a turn, or a round of turns, came to its end.
@@ -34,7 +33,7 @@ pub enum Turned {
 /// An entry or an exit block, if there is one.
 pub fn do_block<S: Sink, L: Ledger>(
     start: Option<usize>,
-    code: &[Instr],
+    code: &FusedCode,
     context: &PieceContext,
     memory: &mut Memory,
     sink: &mut S,
@@ -304,11 +303,12 @@ fn do_action<S: Sink, L: Ledger>(
         clause.block (world_of memory.old.store)) steps.old steps.new }
     ensures keeps { Keeps S.failures result memory.old memory.new sink.old sink.new }
 {
-    let context = state_set.context;
     if clause.is_empty {
-        pass_by(state_set.code, clause.block, &context, &memory.store, steps);
+        let context = &state_set.context;
+        pass_by(state_set.code, clause.block, context, &memory.store, steps);
         return Ok(None);
     }
+    let context = state_set.context;
     perform(state_set.code, clause.block, &context, memory, sink, steps)
 }
 

@@ -13,9 +13,8 @@ ghost use Rattle.snl_schedule.specs.Turn as spec;
 use crate::plans::{ClausePlan, SetContext};
 use crate::refreshing::refresh;
 use crate::transitions::{Turned, do_block, transit};
-use snl_meaning::Instr;
 use snl_output::{Fired, Sink, Stop, fault_text, write_fault};
-use snl_vm::{Memory, PieceContext, Steps, Store, Test, evaluate, holds_by};
+use snl_vm::{FusedCode, Memory, PieceContext, Steps, Store, Test, evaluate, holds_by};
 use std::sync::ledger::Ledger;
 
 /// Whether the condition at an address holds, by a run of its code.
@@ -239,7 +238,7 @@ pub fn turn<S: Sink, L: Ledger>(
 /// context.
 pub fn do_told<S: Sink, L: Ledger>(
     start: Option<usize>,
-    code: &[Instr],
+    code: &FusedCode,
     context: &PieceContext,
     memory: &mut Memory,
     sink: &mut S,

@@ -28,3 +28,9 @@ pub mod Framed
 pub mod PicturesApart
 pub mod Ranges
 pub mod Tested
+pub mod Passing
+pub mod Instructions
+pub mod Sequences
+pub mod Lending
+pub mod Entries
+pub mod LentStores

@@ -17,3 +17,5 @@ pub mod Pictures
 pub mod Zeros
 pub mod Conditions
 pub mod ConditionExamples
+pub mod Fused
+pub mod Lent

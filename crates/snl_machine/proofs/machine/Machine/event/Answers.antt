@@ -6,6 +6,7 @@ use Rattle.snl_meaning.specs.declared.instrs.Instr.{Instr}
 use Rattle.snl_meaning.specs.declared.live.Live.{Live}
 use Rattle.snl_meaning.specs.Frames.{at_time}
 use Rattle.snl_meaning.specs.Known.{entries}
+use Rattle.snl_flat.specs.declared.code.Code.{Code}
 use Rattle.snl_flat.specs.Pieces.{texts_of}
 use Rattle.snl_vm.specs.Stack.{Room}
 use Rattle.snl_vm.specs.Views.{world_of}
@@ -35,23 +36,26 @@ words-by r = r.operands + r.places
 pub returns-clause-does : goal.returns-clause-does
 returns-clause-does g c =
     let m = c.args.self.now in
-    let same = handed-is m c.instrs.result.now (map spelled_in c.as_slice.result.now) c.functions.result.now c.depth.result
-    c.instrs.ensures (ap (map spelled_in) c.as_slice.ensures.value ∙ m.formats_are) c.functions.ensures c.depth.ensures in
+    let same = handed-is m c.fused.result (map spelled_in c.as_slice.result.now) c.functions.result.now c.depth.result
+    c.fused.ensures (ap (map spelled_in) c.as_slice.ensures.value ∙ m.formats_are) (c.functions.ensures ∙ ap (λ (k : Code). k.functions.items) c.code-code.ensures)
+    (c.depth.ensures ∙ ap (λ (k : Code). k.depth) c.code-code.ensures) in
     subst (λ (t : Loaded). Does {V = Live} {A = Live} (λ live. live) c.take.result (world_of c.take.new.memory.store) (g.S.Sink.told c.args.sink.now) (g.S.Sink.told c.take.new.sink)
     (line_of (program_of t) m.budget c.args.ms c.args.event.now (world_held m))) same c.take.ensures.does
 
 pub returns-clause-steps : goal.returns-clause-steps
 returns-clause-steps g c =
     let m = c.args.self.now in
-    let same = handed-is m c.instrs.result.now (map spelled_in c.as_slice.result.now) c.functions.result.now c.depth.result
-    c.instrs.ensures (ap (map spelled_in) c.as_slice.ensures.value ∙ m.formats_are) c.functions.ensures c.depth.ensures in
+    let same = handed-is m c.fused.result (map spelled_in c.as_slice.result.now) c.functions.result.now c.depth.result
+    c.fused.ensures (ap (map spelled_in) c.as_slice.ensures.value ∙ m.formats_are) (c.functions.ensures ∙ ap (λ (k : Code). k.functions.items) c.code-code.ensures)
+    (c.depth.ensures ∙ ap (λ (k : Code). k.depth) c.code-code.ensures) in
     subst (λ (t : Loaded). Adds c.take.result (line_steps t m.budget c.args.ms c.args.event.now (world_held m)) c.args.steps.now c.take.new.steps) same c.take.ensures.steps
 
 pub returns-clause-time : goal.returns-clause-time
 returns-clause-time g c =
     let m = c.args.self.now in
-    let same = handed-is m c.instrs.result.now (map spelled_in c.as_slice.result.now) c.functions.result.now c.depth.result
-    c.instrs.ensures (ap (map spelled_in) c.as_slice.ensures.value ∙ m.formats_are) c.functions.ensures c.depth.ensures in
+    let same = handed-is m c.fused.result (map spelled_in c.as_slice.result.now) c.functions.result.now c.depth.result
+    c.fused.ensures (ap (map spelled_in) c.as_slice.ensures.value ∙ m.formats_are) (c.functions.ensures ∙ ap (λ (k : Code). k.functions.items) c.code-code.ensures)
+    (c.depth.ensures ∙ ap (λ (k : Code). k.depth) c.code-code.ensures) in
     subst (λ (t : Loaded). OnErr c.take.result (HasInstant (program_of t) m.budget c.args.ms (world_held m) (world_of c.take.new.memory.store).time)) same c.take.ensures.time
 
 -- the words that it holds stay
