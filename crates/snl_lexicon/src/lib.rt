@@ -3,10 +3,10 @@
 //! `wanted_of` makes of words what a search looks for: ends of lines of the output.
 #![tactic(auto)]
 
+mod lines;
 mod meanings;
 mod names;
 mod never;
-mod puts;
 mod reachability;
 mod setup;
 mod spelling;
@@ -15,8 +15,8 @@ mod wanted;
 mod wanted_text;
 mod wrongs;
 
+pub use lines::{begins_program, cut, has_end};
 pub use meanings::Lexicon;
 pub use names::{ProgramNames, Store};
-pub use puts::{begins_program, cut, has_end, put_twice};
 pub use setup::{Ground, Machines, Scouted, Scouts, SearchFacts, scouted_by};
 pub use wanted::{Wanted, WishedEnd, wanted_of};
