@@ -10,11 +10,11 @@ use Rattle.snl_meaning.specs.Names.{format_text}
 use Rattle.snl_meaning.specs.Run.{Entry}
 use Rattle.snl_meaning.specs.Words.{element_place}
 use Rattle.snl_text.specs.declared.kinds.Kind.{Kind}
-use Rattle.snl_flows.specs.Checks.{are_all_same, are_bound, are_first_same, are_taken, takes, is_no_more, are_no_more, are_put, are_put_by, are_same_at, begins, is_bound, is_fine_at, is_named, is_printed, is_put, is_put_at, is_put_by, is_put_of, is_read, is_same_at, is_same_in, known_at, leads, leads_after, may_get_other, may_overflow, may_overflow_by, may_overflow_over, prefix_may_overflow}
+use Rattle.snl_flows.specs.Checks.{are_all_same, are_bound, are_kept, are_first_same, are_taken, takes, is_no_more, are_no_more, are_put, are_put_by, are_same_at, begins, is_bound, is_fine_at, is_named, is_printed, is_put, is_put_at, is_put_by, is_put_of, is_read, is_same_at, is_same_in, known_at, leads, leads_after, may_get_other, may_overflow, may_overflow_by, may_overflow_over, prefix_may_overflow}
 use Rattle.snl_flows.specs.Fine.{AreTaken, Takes, Begins, IsAnyElement, IsBound, IsFineAt, IsPrinted, IsPut, IsPutBy, LeadsTo, MayBecomeOther, settled_of}
 use Rattle.snl_flows.specs.Outside.{has}
 use Rattle.snl_flows.specs.Tables.{Operand, Another, Same, Within, CanBe, IsSameIn, top_of, below, under, Flow, Ground, facts_at, said_at}
-use Rattle.snl_flows.proofs.Checks.{all-no-more, all-same, first-same, first-same-at, gets-other, leads-more, leads-one, leads-to, named-by, no-more, overflows, overflows-by, overflows-over, prefix-overflows, read-by, same-in, words-behind, words-same}
+use Rattle.snl_flows.proofs.Checks.{all-no-more, all-same, first-same, first-same-at, gets-other, kept-by, leads-more, leads-one, leads-to, named-by, no-more, overflows, overflows-by, overflows-over, prefix-overflows, read-by, same-in, words-behind, words-same}
 
 module _ (g : Ground) (set : ℕ) (f : Flow) where
   -- ---- puts
@@ -235,5 +235,5 @@ module _ (g : Ground) (set : ℕ) (f : Flow) where
         with-test (is_same_in (top_of os) || has g.lines line) (at + 1) os (either (is_same_in (top_of os)) (has g.lines line) (same-in (top_of os)) (λ left. left)) said
     fine-at Return said =
         let parts = and_parts (is_no_more f.given (top_of os)) (are_all_same (below os)) said in (no-more f.given (top_of os) parts.0, all-same (below os) parts.1)
-    fine-at (Leave state) said = tt
-    fine-at End said = all-same os said
+    fine-at (Leave state) said = kept-by g set f at f.leaves said
+    fine-at End said = let two = and_parts (are_all_same os) (are_kept g set f at f.ends) said in (all-same os two.0, kept-by g set f at f.ends two.1)

@@ -6,8 +6,8 @@ use Rattle.snl_arithmetic.specs.Arithmetic.{is_zero}
 use Rattle.snl_text.specs.declared.kinds.Kind.{Kind}
 use Rattle.snl_text.specs.declared.kinds.Kind.TheVariants as kind
 use Rattle.snl_meaning.specs.declared.instrs.Variable.{Variable}
-use Rattle.snl_flows.specs.Checks.{has_all, has_more, are_below, is_name, is_named, is_same_in, are_first_same, are_all_same, is_no_more, are_no_more, may_overflow, may_overflow_by, may_overflow_over, prefix_may_overflow, hidden_here, known_at, leads, leads_after, is_same_at, are_same_at, is_read, may_get_other}
-use Rattle.snl_flows.specs.Fine.{AreRead, IsElement, LeadsAfter, LeadsTo, MayGetOther, MayOverflow, MayOverflowBy, MayOverflowOver, PrefixMayOverflow}
+use Rattle.snl_flows.specs.Checks.{has_all, has_more, are_below, is_name, is_named, is_same_in, are_first_same, are_all_same, is_no_more, are_no_more, may_overflow, may_overflow_by, may_overflow_over, prefix_may_overflow, hidden_here, known_at, leads, leads_after, is_same_at, are_same_at, is_read, may_get_other, are_kept}
+use Rattle.snl_flows.specs.Fine.{AreKept, AreRead, IsElement, LeadsAfter, LeadsTo, MayGetOther, MayOverflow, MayOverflowBy, MayOverflowOver, PrefixMayOverflow}
 use Rattle.snl_flows.specs.Outside.{has, places_of}
 use Rattle.snl_flows.specs.Tables.{Operand, Another, Same, Within, IsSameIn, top_of, below, AreFirstSame, AreAllSame, IsNoMore, AreNoMore, Flow, Ground, IsOpen, IsSameAt, MayDiffer, facts_at, is_loose, said_at}
 use Rattle.snl_flows.specs.Texts.{IsNamed}
@@ -20,7 +20,7 @@ not-so true said = absurd (false≢true said)
 not-so false said = refl
 
 -- a word among some is among others
-all-in : (here words : List ℕ) → has_all here words ≡ true → (k : ℕ) → has words k ≡ true → has here k ≡ true
+pub all-in : (here words : List ℕ) → has_all here words ≡ true → (k : ℕ) → has words k ≡ true → has here k ≡ true
 all-in here [] said k known = absurd (false≢true known)
 all-in here (x ∷ xs) said k known =
     let parts = and_parts (has here x) (has_all here xs) said in
@@ -231,6 +231,17 @@ module _ (g : Ground) (set : ℕ) (f : Flow) where
       bare : (c : Bool) → c ≡ false → has (places_of g.hidden set) k ≡ false → IsOpen (places_of g.hidden set) c k
       bare true own seen = absurd (false≢true (sym own))
       bare false own seen = seen
+
+  -- words that are so where a piece is over
+  pub kept-by : (at : ℕ) (places : List ℕ) → are_kept g set f at places ≡ true → AreKept g set f at places
+  kept-by at [] said k here = absurd (false≢true here)
+  kept-by at (x ∷ xs) said k here =
+      let two = and_parts (has (said_at f at false) x && not (is_loose f false x)) (are_kept g set f at xs) said in
+      let one = and_parts (has (said_at f at false) x) (not (is_loose f false x)) two.0 in
+      ⊎_elim (λ (first : (x == k) ≡ true).
+      let is = eqb-true x k first in
+      (subst (λ (n : ℕ). has (said_at f at false) n ≡ true) is one.0, subst (λ (n : ℕ). is_loose f false n ≡ false) is (not-so (is_loose f false x) one.1)))
+      (λ more. kept-by at xs two.1 k more) (or_cases (x == k) (has xs k) here)
 
   -- the first of a variable
   pub first-same-at : (at : ℕ) (v : Variable) → is_same_at g set f at v.is_shared v.place ≡ true → IsSameAt g set f at v.is_shared (v.place + 0)

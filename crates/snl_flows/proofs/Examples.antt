@@ -24,6 +24,10 @@ no-jump never either = ⊎_elim (λ p. p) (λ q. absurd (never q)) either
 none-said : (k : ℕ) → has [] k ≡ true → ⊥
 none-said k h = absurd (cc)
 
+-- so none of these words has to be the same
+none-kept : (P : ℕ → Type 0) (k : ℕ) → has [] k ≡ true → P k
+none-kept P k h = absurd (none-said k h)
+
 -- true is not false
 not-both : (b : Bool) → b ≡ true → b ≡ false → ⊥
 not-both b p q = absurd (cc)
@@ -45,7 +49,7 @@ counted-fine zero j at there = fine-by (hides (12 ∷ [])) counting counts 0 (In
     none : (b : Bool) (k : ℕ) → has (said_at counting 1 b) k ≡ true → has (said_at counting 0 b) k ≡ true
     none true k h = h
     none false k h = h
-counted-fine (suc zero) j at there = fine-by (hides (12 ∷ [])) counting counts 1 (Leave 1) j at tt
+counted-fine (suc zero) j at there = fine-by (hides (12 ∷ [])) counting counts 1 (Leave 1) j at (none-kept _)
 counted-fine (suc (suc n)) j at there = absurd (cc)
 
 -- where its word is hidden, it is not the same at the first address
@@ -124,8 +128,8 @@ written-fine (suc (suc (suc (suc zero)))) j at there = fine-by (hides []) table 
     over : (b : Bool) (k : ℕ) → has (said_at table 6 b) k ≡ true → has (said_at table 4 b) k ≡ true
     over true k h = h
     over false k h = h
-written-fine (suc (suc (suc (suc (suc zero))))) j at there = fine-by (hides []) table writes_first 5 (Leave 1) j at tt
-written-fine (suc (suc (suc (suc (suc (suc zero)))))) j at there = fine-by (hides []) table writes_first 6 End j at tt
+written-fine (suc (suc (suc (suc (suc zero))))) j at there = fine-by (hides []) table writes_first 5 (Leave 1) j at (none-kept _)
+written-fine (suc (suc (suc (suc (suc (suc zero)))))) j at there = fine-by (hides []) table writes_first 6 End j at (tt, none-kept _)
 written-fine (suc (suc (suc (suc (suc (suc (suc n))))))) j at there = absurd (cc)
 
 -- all of them

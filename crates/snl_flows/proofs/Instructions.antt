@@ -25,7 +25,7 @@ use Rattle.snl_flows.proofs.Operands.{HoldsOf, HoldOf, all-same, can-be, first-s
 use Rattle.snl_flows.proofs.Operators.{fitted-other, operated-other-by, operated-other-over, outcome-to, prefix-other}
 use Rattle.snl_flows.proofs.Outcomes.{AlikeTo, BothLead, lead, stop, test-to, then-to}
 use Rattle.snl_flows.proofs.Puts.{put-to, spent-to}
-use Rattle.snl_flows.proofs.Steps.{K, ops, At, Next, Holds, AreBack, IsOfGround, BothEnd, BothLeave, led, led-after, on, pushed, topped, two-topped, twice, free, known, apart, stores, assigns, stores-at, checked, jumped, taken, returned, called-on}
+use Rattle.snl_flows.proofs.Steps.{K, ops, At, Next, Holds, AreBack, IsOfGround, BothEnd, BothLeave, led, led-after, on, pushed, topped, two-topped, twice, free, kept, known, apart, stores, assigns, stores-at, checked, jumped, taken, returned, called-on}
 use Rattle.snl_flows.proofs.Texts.{one-print}
 use Rattle.snl_flows.proofs.Variables.{With, adjusted-to-other, adjusted-to-same, cleared-to, read-other, read-to}
 use Rattle.snl_flows.proofs.Worlds.{SameOn, same-outside}
@@ -220,8 +220,8 @@ module _ (g : Ground) (f : Flow) (c : PieceContext) where
   -- no step more
   ends : (at : ℕ) (s t : List ℤ) (w u : World) → Does End at s t w u
   ends at s t w u fine h e =
-      subst (λ (x : List ℤ). AlikeTo g (Next g f c) (Gives (EndsWith s) w []) (Gives (EndsWith x) u [])) (all-same s t (ops g f c at) fine h)
-      (lead g (Next g f c) _ _ w u (BothEnd s w u (same-outside g.hidden c.set (K g f c at) w u e)))
+      subst (λ (x : List ℤ). AlikeTo g (Next g f c) (Gives (EndsWith s) w []) (Gives (EndsWith x) u [])) (all-same s t (ops g f c at) fine.0 h)
+      (lead g (Next g f c) _ _ w u (BothEnd s w u (same-outside g.hidden c.set (K g f c at) w u e) (kept g f c at f.ends w u fine.1 e)))
 
   -- a call
   calls-on : (at function n line : ℕ) (s t : List ℤ) (w u : World) → AreBack f c.returns → IsOfGround g c → Does (Call function n line) at s t w u
@@ -297,5 +297,6 @@ module _ (g : Ground) (f : Flow) (c : PieceContext) where
   done-alike (Call function n line) at s t w u links backs same = calls-on at function n line s t w u backs same
   done-alike (Fit least greatest line) at s t w u links backs same = fits at least greatest line s t w u
   done-alike Return at s t w u links backs same = λ fine h e. returned g f c c.returns at s t w u fine backs h e
-  done-alike (Leave state) at s t w u links backs same = λ fine h e. lead g (Next g f c) _ _ w u (BothLeave state w u (same-outside g.hidden c.set (K g f c at) w u e))
+  done-alike (Leave state) at s t w u links backs same = λ fine h e.
+      lead g (Next g f c) _ _ w u (BothLeave state w u (same-outside g.hidden c.set (K g f c at) w u e) (kept g f c at f.leaves w u fine e))
   done-alike End at s t w u links backs same = ends at s t w u

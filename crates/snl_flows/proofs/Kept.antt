@@ -40,7 +40,7 @@ module _ (g : Ground) (set : ℕ) (K : Bool → ℕ → Type 0) where
   pub keeps-words : KeepsAlike set Kept (SameButValues g.names)
   keeps-words = record {
     rest = λ w u e. ap rest_of e.same;
-    rest_changes = λ r w u homes ties channels e. record { same = ap (with_rest r) e.same; count = e.count; copies = e.copies; functions = e.functions };
+    rest_changes = λ r w u phase homes ties channels e. record { same = ap (with_rest r) e.same; count = e.count; copies = e.copies; functions = e.functions };
     comes = λ place zs w u e. words-change g.hidden set K K false _ _ w u (λ k p. p) (agree-overwritten zs (Known g.hidden set K false) _ _ place (words-agree g.hidden set K false w u e)) e;
     prints = λ name text w u e.
         subst (λ (ms : ℕ). SameButValues g.names (print_line w.time name text) (print_line ms name text)) (ap (λ (v : World). v.time) e.same)

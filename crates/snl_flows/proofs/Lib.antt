@@ -14,8 +14,12 @@ pub mod Steps
 pub mod Instructions
 pub mod Quiet
 pub mod Runs
+pub mod Less
 pub mod Pieces
 pub mod Programs
+pub mod Alike
+pub mod Meets
+pub mod ByState
 pub mod Lines
 pub mod Nothing
 pub mod Checks

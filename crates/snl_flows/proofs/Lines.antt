@@ -1,185 +1,374 @@
--- Where tables are right of a program, its lines come out alike from worlds that are the same outside.
-use Rattle.std.proofs.Common.{◌≡◌, ◌∙◌, ◌-◌, ◌<◌, refl, sym, ap, subst, ℕ, Bool, true, false, List, Option, None, Some, length, if◌then◌else◌}
-use Rattle.std.specs.Prelude.{codes, decimal}
+-- Where what is hidden is right, the lines of a program come out alike from worlds that are the same but for that.
+use Rattle.std.proofs.Common.{◌≡◌, ◌∙◌, ◌⊎◌, ◌+◌, ◌<◌, inl, inr, ⊎_elim, refl, sym, ap, subst, arith, ℕ, suc, pos, Bool, true, false, List, [], ◌∷◌, Option, Some, length, map}
+use Rattle.std.specs.Prelude.{nat_lt, option_map, slice_index_or}
+use Rattle.std.proofs.lemmas.Bool.{ltb-true, ltb-false}
+use Rattle.std.proofs.lemmas.List.{length-map}
+use Rattle.snl_channels.specs.Links.{Link}
 use Rattle.snl_flat.specs.declared.code.Code.{Code}
-use Rattle.snl_flat.specs.Pieces.{PieceTree, Test, Action}
+use Rattle.snl_flat.specs.declared.starts.Piece.{Piece}
+use Rattle.snl_flat.specs.declared.starts.Piece.TheVariants.{ProgramEntry, ProgramExit, Entry, Exit, Condition, Block}
+use Rattle.snl_flat.specs.Copies.{held_sets}
+use Rattle.snl_flat.specs.Heres.{for_each_set, placed_in, routines_in, scene_in}
+use Rattle.snl_flat.specs.Pieces.{Test, Action, kept_piece}
+use Rattle.snl_flat.specs.Reached.{Table}
 use Rattle.snl_flat.specs.Starts.{holds_in, table_of}
-use Rattle.snl_load.specs.Meaning.{program_meaning}
+use Rattle.snl_load.specs.Meaning.{program_meaning, state_left_for, target_of}
+use Rattle.snl_load.specs.Places.{home_in, placed_sets}
 use Rattle.snl_load.specs.Reached.{only_reached}
 use Rattle.snl_machine.specs.Reached.{AreReached, IsIn}
+use Rattle.snl_machine.specs.Snapshots.{CanBeIn}
 use Rattle.snl_machine.proofs.Reached.{reached_are_closed, unreached_do_nothing}
+use Rattle.snl_machine.proofs.States.{pieces-stay}
+use Rattle.snl_meaning.specs.declared.faults.Fault.{Fault}
 use Rattle.snl_meaning.specs.declared.live.Live.{Live}
+use Rattle.snl_meaning.specs.declared.live.Live.TheVariants.{Waiting}
+use Rattle.snl_meaning.specs.Effect.{block_effect, held_by}
 use Rattle.snl_meaning.specs.Frames.{Frame}
-use Rattle.snl_meaning.specs.Links.{with_elements}
-use Rattle.snl_meaning.specs.Printing.{print_line}
-use Rattle.snl_meaning.specs.Ran.{Ran}
-use Rattle.snl_meaning.specs.World.{World, copy_of}
-use Rattle.snl_output.specs.Lines.{start_line, go_line, exit_line, fault_line, fault_text, space}
-use Rattle.snl_schedule.specs.Event.{line_of, wake_before}
-use Rattle.snl_schedule.specs.Turn.{entered_in}
-use Rattle.snl_syntax.specs.Programs.{ProgramTree}
-use Rattle.snl_alike.specs.Lines.{EndsLine, Newline}
-use Rattle.snl_alike.specs.Runs.{AreAlikeInRuns, WakesAlike, NoWakes, Wakes}
-use Rattle.snl_alike.specs.TwoRuns.{Alike, BothGive, BothFault, FirstLeftOut, SecondLeftOut, KeepsAlike, rest_of, with_rest}
-use Rattle.snl_alike.proofs.Instants.{line-alike}
-use Rattle.snl_flows.specs.Flows.{IsAlike, LinesFlow, PieceFlows, ground_of}
+use Rattle.snl_meaning.specs.Keeping.{world_after}
+use Rattle.snl_meaning.specs.declared.names.Placed.{Placed}
+use Rattle.snl_meaning.specs.Names.{words_of}
+use Rattle.snl_meaning.specs.Ran.{Ran, Gives, Faults, then_do}
+use Rattle.snl_meaning.specs.World.{SetMemory, World, copy_of}
+use Rattle.snl_meaning.proofs.Frames.{pieces_keep_the_frame}
+use Rattle.snl_meaning.proofs.Keeping.{pieces_keep_the_phase}
+use Rattle.snl_names.specs.Variables.{CopyVariable, variables_of}
+use Rattle.snl_schedule.specs.declared.events.Event.{Event}
+use Rattle.snl_schedule.specs.Event.{line_of}
+use Rattle.snl_schedule.specs.Instant.{Program}
+use Rattle.snl_schedule.specs.Turn.{target_by}
+use Rattle.snl_syntax.specs.Expressions.{ExprTree}
+use Rattle.snl_syntax.specs.Programs.{ProgramTree, StateSetTree}
+use Rattle.snl_syntax.specs.Statements.{BlockTree}
+use Rattle.snl_alike.specs.Runs.{AreAlikeInRuns, HoldsBehind, NothingMore, StartAgrees}
+use Rattle.snl_alike.specs.TwoRuns.{Alike, BothGive, BothFault, FirstLeftOut, SecondLeftOut}
+use Rattle.snl_alike.proofs.Instants.{line-alike, started-alike}
+use Rattle.snl_alike.proofs.Programs.{nothing-behind, nothing-there}
+use Rattle.snl_flows.specs.Flows.{AreFlowsOf, IsAlike, IsBetween, LinesFlow, RunsIn, ground_of}
 use Rattle.snl_flows.specs.LeftOut.{IsLeftOut}
-use Rattle.snl_flows.specs.Outside.{IsSameOutside}
+use Rattle.snl_flows.specs.Outside.{IsSameByState, Places, has, hidden_in, places_by, places_for, places_in, places_of}
 use Rattle.snl_flows.specs.Tables.{Ground, HasLinks}
 use Rattle.snl_flows.specs.Texts.{SameButValues, NoLines}
-use Rattle.snl_flows.proofs.Agree.{agree-overwritten}
-use Rattle.snl_flows.proofs.Pieces.{pieces_flow}
-use Rattle.snl_flows.proofs.Programs.{PieceAgrees, program-agrees}
-use Rattle.snl_flows.proofs.Texts.{ends-behind, one-line, print-ends, texts-joined}
-use Rattle.snl_flows.proofs.Worlds.{Known, SameOn, copy-change, same-nowhere, same-outside, words-agree, words-change}
+use Rattle.snl_flows.proofs.Alike.{flow-in-runs}
+use Rattle.snl_flows.proofs.ByState.{AreInSame, IsAlikeIn, IsAlikeNow, back, by-wide, in-state, place-at, places-same, relisted, state-in-runs, to-now}
+use Rattle.snl_flows.proofs.Meets.{always-at, beyond, each_always, meet, meet-both, meet-has, met, met-open, met-own}
+use Rattle.snl_flows.proofs.Pieces.{CarriesOver, after-then, block-carries, each-flows, less-open, state-left-after}
+use Rattle.snl_flows.proofs.Programs.{IsOf, PiecesAgree, program-agrees}
+use Rattle.snl_flows.proofs.Runs.{many-by}
+use Rattle.snl_flows.proofs.Texts.{texts-joined}
 
--- ---- lines of a run
+-- a piece of a state runs in it
+runs-of : (hidden : List Places) (name : Piece) (state : ℕ) → IsOf name state → RunsIn hidden name state
+runs-of hidden (Entry set s) state is = is
+runs-of hidden (Exit set s) state is = is
+runs-of hidden (Condition set s k) state is = is
+runs-of hidden (Block set s k) state is = is
+runs-of hidden ProgramEntry state is = absurd is
+runs-of hidden ProgramExit state is = absurd is
 
--- `start`
-start-ends : (ms : ℕ) (name : List ℕ) → EndsLine (start_line ms name)
-start-ends ms name = ends-behind (decimal ms) _ (ends-behind (codes " start ") _ (ends-behind name _ Newline))
+-- ---- a program
 
--- `go`
-go-ends : (ms : ℕ) (set from to : List ℕ) → EndsLine (go_line ms set from to)
-go-ends ms set from to =
-    ends-behind (decimal ms) _ (ends-behind (codes " go ") _ (ends-behind set _ (ends-behind space _ (ends-behind from _ (ends-behind space _ (ends-behind to _ Newline))))))
+module _ (p : ProgramTree) (ls : List Link) (c : Code) (hidden : List Places) (lines : List ℕ) (names : List (List ℕ)) (right : AreFlowsOf p ls c hidden lines names) where
+  -- what holds for all state sets, where nothing is hidden
+  abbrev ground : Ground
+  ground = ground_of p ls c [] lines names
 
--- `exit`
-exit-ends : (ms : ℕ) (name : List ℕ) → EndsLine (exit_line ms name)
-exit-ends ms name = ends-behind (decimal ms) _ (ends-behind (codes " exit ") _ (ends-behind name _ Newline))
+  -- two worlds that are the same but for what is hidden in their states,
+  abbrev Now : World → World → Type 0
+  Now = IsAlikeNow ground hidden right.wide
 
--- `fault`
-fault-ends : (ms : ℕ) (set : List ℕ) (line : ℕ) (text : List ℕ) → EndsLine (fault_line ms set line text)
-fault-ends ms set line text =
-    ends-behind (decimal ms) _ (ends-behind (codes " fault ") _ (ends-behind set _ (ends-behind space _ (ends-behind (decimal line) _ (ends-behind space _ (ends-behind text _ Newline))))))
+  -- while a state set is in a state,
+  abbrev In : (set state : ℕ) → World → World → Type 0
+  In = IsAlikeIn ground hidden right.wide
 
--- ---- the relation is one that all steps keep
+  -- and but for what is hidden in each state
+  abbrev always : Ground
+  always = record ground { hidden = each_always hidden }
 
-module _ (g : Ground) where
-  -- of nothing more it is known that it is the same
-  abbrev Nowhere : Bool → ℕ → Type 0
-  Nowhere b k = ⊥
+  -- texts that are the same
+  abbrev Texts : List ℕ → List ℕ → Type 0
+  Texts = SameButValues names
 
-  -- two worlds, of which nothing more is known
-  bare : (set : ℕ) (w u : World) → IsSameOutside g.hidden w u → SameOn g.hidden set Nowhere w u
-  bare set w u e = same-nowhere g.hidden set Nowhere w u (λ b k p. p) e
+  -- faults that are left out
+  abbrev Out : Fault → ℕ → Type 0
+  Out = IsLeftOut lines
 
-  -- a line at the same time
-  same-line : (line : ℕ → List ℕ) → ((ms : ℕ) → EndsLine (line ms)) → (w u : World) → IsAlike g w u → SameButValues g.names (line w.time) (line u.time)
-  same-line line ends w u e =
-      subst (λ (ms : ℕ). SameButValues g.names (line w.time) (line ms)) (ap (λ (v : World). v.time) e.outside.same) (one-line g.names (line w.time) (ends w.time))
+  -- the states that a run can come to
+  abbrev reached : Table
+  reached = holds_in (table_of c)
 
-  -- of a state set
-  flow-keeps : (set : ℕ) → KeepsAlike set (IsAlike g) (SameButValues g.names)
-  flow-keeps set = record {
-    rest = λ w u e. ap rest_of e.outside.same;
-    rest_changes = λ r w u homes ties channels e. record {
-      links = record { channels = channels ∙ e.links.channels; ties = ties ∙ e.links.ties; homes = homes ∙ e.links.homes };
-      outside = record { same = ap (with_rest r) e.outside.same; long = e.outside.long; count = e.outside.count; copies = e.outside.copies };
-    };
-    comes = λ place zs w u e. record {
-      links = record { channels = e.links.channels; ties = e.links.ties; homes = e.links.homes };
-      outside = same-outside g.hidden set Nowhere (with_elements set place zs w) (with_elements set place zs u)
-          (words-change g.hidden set Nowhere Nowhere false _ _ w u (λ k p. p)
-          (agree-overwritten zs (Known g.hidden set Nowhere false) _ _ place (words-agree g.hidden set Nowhere false w u (bare set w u e.outside))) (bare set w u e.outside));
-    };
-    prints = λ name text w u e. same-line (λ ms. print_line ms name text) (λ ms. print-ends ms name text) w u e;
-    silent = NoLines;
-    joined = texts-joined g.names;
+  -- ---- what pieces keep
+
+  -- How far the program has come, the states of state sets, and how many copies there are.
+  record Keeps (w x : World) : Type 0 where
+    pub phase : x.phase ≡ w.phase
+    pub states : AreInSame x.copies w.copies
+    pub many : length x.copies ≡ length w.copies
+
+  -- so the same is hidden
+  kept-places : (w x : World) → Keeps w x → hidden_in hidden x ≡ hidden_in hidden w
+  kept-places w x keeps = places-same x.phase hidden x.copies w.copies keeps.states ∙ ap (λ (l : Live). hidden_in hidden (record w { phase = l })) keeps.phase
+
+  -- a condition keeps them,
+  test-keeps : (set : ℕ) (e : ExprTree) (w : World) → Keeps w (world_after (held_by (scene_in p set) (Some e) w))
+  test-keeps set e w = record {
+    phase = (pieces_keep_the_phase (routines_in p) (scene_in p set) refl).condition (Some e) w;
+    states = (pieces-stay (λ n state. state ≡ (copy_of n w).state) p set).condition (Some e) w (λ n. refl);
+    many = many-by w (world_after (held_by (scene_in p set) (Some e) w)) ((pieces_keep_the_frame (routines_in p) (scene_in p set) refl).condition (Some e) w);
   }
 
-  -- the same wakes
-  wakes-same : (o : Option ℕ) → WakesAlike (λ n m. n ≡ m) o o
-  wakes-same None = NoWakes
-  wakes-same (Some n) = Wakes n n refl
+  -- and a block
+  block-keeps : (set : ℕ) (b : BlockTree) (w : World) → Keeps w (world_after (then_do (block_effect (scene_in p set) b w) state_left_for))
+  block-keeps set b w =
+      subst (Keeps w) (sym (after-then (block_effect (scene_in p set) b w) state_left_for state-left-after)) (record {
+        phase = (pieces_keep_the_phase (routines_in p) (scene_in p set) refl).block b w;
+        states = (pieces-stay (λ n state. state ≡ (copy_of n w).state) p set).block b w (λ n. refl);
+        many = many-by w (world_after (block_effect (scene_in p set) b w)) ((pieces_keep_the_frame (routines_in p) (scene_in p set) refl).block b w);
+      })
 
-  -- a state that is entered
-  enter : (set state : ℕ) (is_timed : Bool) (w u : World) → IsAlike g w u → IsAlike g (entered_in set state is_timed w) (entered_in set state is_timed u)
-  enter set state is_timed w u e = record {
-    links = record { channels = e.links.channels; ties = e.links.ties; homes = e.links.homes };
-    outside = same-outside g.hidden set Nowhere (entered_in set state is_timed w) (entered_in set state is_timed u)
-        (copy-change g.hidden set Nowhere (record (copy_of set w) { state = state; entered = if is_timed then w.time else (copy_of set w).entered })
-        (record (copy_of set u) { state = state; entered = if is_timed then u.time else (copy_of set u).entered }) w u
-        (record { state = refl; entered = at is_timed; words = (on.copies set).words }) on);
-  }
+  -- ---- outcomes
+
+  -- what comes out alike where the same is hidden before and behind it
+  settled-now : {A : Type 0} (w : World) (r s : Ran A) → Keeps w (world_after r) → Alike Out (IsAlike (record ground { hidden = hidden_in hidden w })) Texts r s → Alike Out Now Texts r s
+  settled-now w _ _ keeps (BothGive v x y a b e t) = BothGive v x y a b (back ground hidden right.wide w x y (kept-places w x keeps) e) t
+  settled-now w _ _ keeps (BothFault fault line x y a b e t) = BothFault fault line x y a b (back ground hidden right.wide w x y (kept-places w x keeps) e) t
+  settled-now w _ _ keeps (FirstLeftOut fault line x a r out) = FirstLeftOut fault line x a r out
+  settled-now w _ _ keeps (SecondLeftOut fault line y b r out) = SecondLeftOut fault line y b r out
+
+  -- while a state set is in a state
+  settled-in : {A : Type 0} (set state : ℕ) (w : World) (r s : Ran A) → (copy_of set w).state ≡ state → Keeps w (world_after r) →
+      Alike Out (IsAlike (record ground { hidden = hidden_in hidden w })) Texts r s → Alike Out (In set state) Texts r s
+  settled-in set state w _ _ is keeps (BothGive v x y a b e t) =
+      BothGive v x y a b (record { alike = back ground hidden right.wide w x y (kept-places w x keeps) e; is_in = keeps.states set ∙ is }) t
+  settled-in set state w _ _ is keeps (BothFault fault line x y a b e t) =
+      BothFault fault line x y a b (record { alike = back ground hidden right.wide w x y (kept-places w x keeps) e; is_in = keeps.states set ∙ is }) t
+  settled-in set state w _ _ is keeps (FirstLeftOut fault line x a r out) = FirstLeftOut fault line x a r out
+  settled-in set state w _ _ is keeps (SecondLeftOut fault line y b r out) = SecondLeftOut fault line y b r out
+
+  -- ---- pieces, by states
+
+  -- what is hidden in a world is so in the state of a state set
+  between : (set state : ℕ) (w : World) → (copy_of set w).state ≡ state → IsBetween (places_for hidden set) state (places_of (hidden_in hidden w) set)
+  between set state w is =
+      subst (IsBetween (places_for hidden set) state) (sym (place-at w.phase hidden w.copies set))
+      (subst (λ (n : ℕ). IsBetween (places_for hidden set) state (places_by w.phase (places_for hidden set) n)) (sym is)
+      (record { low = λ k here. by-wide hidden right.wide w.phase set state k here; high = λ k here. in-state hidden right.wide w.phase set state k here }))
+
+  -- a state in which the blocks of the program can run, by the state of the first state set
+  some-state : (w : World) → (state : ℕ) × (state < length (places_for hidden 0).states) × IsBetween (places_for hidden 0) state (places_of (hidden_in hidden w) 0)
+  some-state w = by (nat_lt (copy_of 0 w).state (length (places_for hidden 0).states)) refl
     where
-      on : SameOn g.hidden set Nowhere w u
-      on = bare set w u e.outside
+      s : Places
+      s = places_for hidden 0
 
-      at : (b : Bool) → (if b then w.time else (copy_of set w).entered) ≡ (if b then u.time else (copy_of set u).entered)
-      at true = ap (λ (v : World). v.time) e.outside.same
-      at false = (e.outside.copies set).entered
+      outside : (phase : Live) (k : ℕ) → ((copy_of 0 w).state < length s.states → ⊥) → has (places_by phase s (copy_of 0 w).state) k ≡ true → has (places_in s 0) k ≡ true
+      outside phase k out here =
+          right.wide 0 0 k (subst (λ (ps : List ℕ). has ps k ≡ true) (beyond s.states (copy_of 0 w).state s.always out) (in-state hidden right.wide phase 0 (copy_of 0 w).state k here))
 
-  -- of runs
-  flow-in-runs : (sets : ℕ) → 0 < sets → AreAlikeInRuns sets (λ n m. n ≡ m) (IsAlike g) (λ set state. IsAlike g) (SameButValues g.names)
-  flow-in-runs sets some = record {
-    some = some;
-    keeps = λ set low. flow-keeps set;
-    keeps_in = λ set state low. flow-keeps set;
-    states = λ set low w u e. (e.outside.copies set).state;
-    inside = λ set low w u e. e;
-    outside = λ set state w u e. e;
-    enters = λ set from state is_timed low either w u e. enter set state is_timed w u e;
-    opens = λ w u e. record {
-      links = record { channels = e.links.channels; ties = e.links.ties; homes = e.links.homes };
-      outside = record { same = ap (λ (v : World). record v { due = None }) e.outside.same; long = e.outside.long; count = e.outside.count; copies = e.outside.copies };
-    };
-    wakes = λ w u e. record {
-      links = record { channels = e.links.channels; ties = e.links.ties; homes = e.links.homes };
-      outside = record { same = ap (λ (v : World). record v { wake = v.due }) e.outside.same; long = e.outside.long; count = e.outside.count; copies = e.outside.copies };
-    };
-    times = λ n m w u at e. subst (λ (t : ℕ). IsAlike g (record w { time = n }) (record u { time = t })) at (record {
-      links = record { channels = e.links.channels; ties = e.links.ties; homes = e.links.homes };
-      outside = record { same = ap (λ (v : World). record v { time = n }) e.outside.same; long = e.outside.long; count = e.outside.count; copies = e.outside.copies };
-    });
-    before = λ n m w u at e.
-        subst (λ (o : Option ℕ). WakesAlike (λ (a b : ℕ). a ≡ b) (wake_before n w) o)
-        (ap (λ (v : World). wake_before n v) e.outside.same ∙ ap (λ (t : ℕ). wake_before t u) at) (wakes-same (wake_before n w));
-    left = λ n m w u at e. ap (λ (v : World). n - v.time) e.outside.same ∙ ap (λ (t : ℕ). t - u.time) at;
-    starts = λ name w u e. same-line (λ ms. start_line ms name) (λ ms. start-ends ms name) w u e;
-    goes = λ set from to w u e. same-line (λ ms. go_line ms set from to) (λ ms. go-ends ms set from to) w u e;
-    exits = λ name w u e. same-line (λ ms. exit_line ms name) (λ ms. exit-ends ms name) w u e;
-    faults = λ set line f w u e. same-line (λ ms. fault_line ms set line (fault_text f)) (λ ms. fault-ends ms set line (fault_text f)) w u e;
+      by : (b : Bool) → nat_lt (copy_of 0 w).state (length s.states) ≡ b → (state : ℕ) × (state < length s.states) × IsBetween s state (places_of (hidden_in hidden w) 0)
+      by true is = ((copy_of 0 w).state, ltb-true (copy_of 0 w).state (length s.states) is, between 0 (copy_of 0 w).state w refl)
+      by false is =
+          let above = ltb-false (copy_of 0 w).state (length s.states) is in (
+            0,
+            right.some,
+            subst (IsBetween s 0) (sym (place-at w.phase hidden w.copies 0))
+                (record { low = λ k here. by-wide hidden right.wide w.phase 0 (copy_of 0 w).state k here; high = λ k here. outside w.phase k (λ low. absurd (omega (arith, low, above))) here }),
+          )
+
+  -- behind an exit block all is the same that was so on the way to a state
+  exit-carries : (set state to : ℕ) (b : BlockTree) → kept_piece reached p (Exit set state) ≡ Some (Action set b) → (w u : World) → In set state w u → CarriesOver hidden set state to w u →
+      HoldsBehind (λ _. CarriesOver hidden set state to) (then_do (block_effect (scene_in p set) b w) state_left_for) (then_do (block_effect (scene_in p set) b u) state_left_for)
+  exit-carries set state to b is w u e carries = by _ _ (each-flows p ls c hidden lines names right (Exit set state) (Action set b) state less is refl within w u alike)
+    where
+      s : Places
+      s = places_for hidden set
+
+      held : List ℕ
+      held = places_of (hidden_in hidden w) set
+
+      less : List (List ℕ)
+      less = met (hidden_in hidden w) set (places_in s to)
+
+      inside : IsBetween s state held
+      inside = between set state w e.is_in
+
+      within : IsBetween s state (places_of less set)
+      within = record {
+        low = λ k here. met-own (hidden_in hidden w) set (places_in s to) k ∙ meet-has held (places_in s to) k (inside.low k here) (right.wide set to k here);
+        high = λ k here. inside.high k (meet-both held (places_in s to) k (sym (met-own (hidden_in hidden w) set (places_in s to) k) ∙ here)).0;
+      }
+
+      same-there : (n k : ℕ) → has (places_of less n) k ≡ false →
+          (has (places_of (hidden_in hidden w) n) k ≡ false) ⊎ (slice_index_or (copy_of n w).words k (pos 0) ≡ slice_index_or (copy_of n u).words k (pos 0))
+      same-there n k shows =
+          ⊎_elim (λ free. inl free)
+          (λ (own : (n ≡ set) × (has held k ≡ true) × (has (places_in s to) k ≡ false)).
+          inr (subst (λ (m : ℕ). slice_index_or (copy_of m w).words k (pos 0) ≡ slice_index_or (copy_of m u).words k (pos 0)) (sym own.0) (carries k (inside.high k own.1) own.2)))
+          (met-open (hidden_in hidden w) set (places_in s to) n k shows)
+
+      alike : IsAlike (record ground { hidden = less }) w u
+      alike =
+          let links = e.alike.links in
+          record {
+            links = record { channels = links.channels; ties = links.ties; homes = links.homes; many = links.many };
+            outside = relisted (hidden_in hidden w) less w u same-there e.alike.outside;
+          }
+
+      by : (r t : Ran (Option ℕ)) → Alike Out (IsAlike (record ground { hidden = less })) Texts r t → HoldsBehind (λ _. CarriesOver hidden set state to) r t
+      by _ _ (BothGive v x y a d k t) = λ n here shows.
+          (k.outside.copies set).at n
+          (met-own (hidden_in hidden w) set (places_in s to) n ∙ less-open (places_in s to) (meet held (places_in s to)) n (λ h. (meet-both held (places_in s to) n h).1) shows)
+      by _ _ (BothFault fault line x y a d k t) = tt
+      by _ _ (FirstLeftOut fault line x a r out) = tt
+      by (Gives v x a) _ (SecondLeftOut fault line y d r out) = tt
+      by (Faults f l x a) _ (SecondLeftOut fault line y d r out) = tt
+
+  -- all pieces
+  pieces-now : PiecesAgree Out Texts NoLines (texts-joined names) Now In (CarriesOver hidden) p reached
+  pieces-now = record {
+    tests = λ set state name x of is w u e.
+        settled-in set state w _ _ e.is_in (test-keeps set x w)
+        (each-flows p ls c hidden lines names right name (Test set x) state (hidden_in hidden w) is (runs-of hidden name state of) (between set state w e.is_in) w u
+        (to-now ground hidden right.wide w u e.alike));
+    blocks = λ set state name b of is w u e.
+        settled-in set state w _ _ e.is_in (block-keeps set b w)
+        (each-flows p ls c hidden lines names right name (Action set b) state (hidden_in hidden w) is (runs-of hidden name state of) (between set state w e.is_in) w u
+        (to-now ground hidden right.wide w u e.alike));
+    own = λ b which w u e.
+        let some = some-state w in
+        settled-now w _ _ (block-keeps 0 b w)
+        (⊎_elim (λ (entry : p.entry ≡ Some b). each-flows p ls c hidden lines names right ProgramEntry (Action 0 b) some.0 (hidden_in hidden w)
+        (ap (option_map (Action 0)) entry) some.1 some.2 w u (to-now ground hidden right.wide w u e))
+        (λ (exit : p.exit ≡ Some b). each-flows p ls c hidden lines names right ProgramExit (Action 0 b) some.0 (hidden_in hidden w)
+        (ap (option_map (Action 0)) exit) some.1 some.2 w u (to-now ground hidden right.wide w u e)) which);
+    leads = λ set state k x clause is w u e.
+        block-carries p ls c hidden lines names right set state k x (hidden_in hidden w) clause is (between set state w e.is_in) w u (to-now ground hidden right.wide w u e.alike);
+    keeps = λ set state to b is w u e l. exit-carries set state to b is w u e l;
   }
+
+  -- ---- pieces at the start
+
+  -- what is hidden in each state
+  among : (set state : ℕ) → IsBetween (places_for hidden set) state (places_of (each_always hidden) set)
+  among set state =
+      subst (IsBetween (places_for hidden set) state) (sym (always-at hidden set)) (record { low = λ k here. here; high = λ k here. right.wide set state k here })
+
+  -- all pieces
+  pieces-always : PiecesAgree Out Texts NoLines (texts-joined names) (IsAlike always) (λ set state. IsAlike always) NothingMore p reached
+  pieces-always = record {
+    tests = λ set state name x of is. each-flows p ls c hidden lines names right name (Test set x) state (each_always hidden) is (runs-of hidden name state of) (among set state);
+    blocks = λ set state name b of is. each-flows p ls c hidden lines names right name (Action set b) state (each_always hidden) is (runs-of hidden name state of) (among set state);
+    own = λ b which.
+        ⊎_elim (λ (entry : p.entry ≡ Some b). each-flows p ls c hidden lines names right ProgramEntry (Action 0 b) 0 (each_always hidden) (ap (option_map (Action 0)) entry) right.some (among 0 0))
+        (λ (exit : p.exit ≡ Some b). each-flows p ls c hidden lines names right ProgramExit (Action 0 b) 0 (each_always hidden) (ap (option_map (Action 0)) exit) right.some (among 0 0)) which;
+    leads = λ set state k x clause is w u e.
+        nothing-behind {A = Option ℕ} set state (λ left. target_by left (target_of (scene_in p set).here.states x.target))
+        (then_do (block_effect (scene_in p set) x.block w) state_left_for) (then_do (block_effect (scene_in p set) x.block u) state_left_for);
+    keeps = λ set state to b is w u e l. nothing-there set state to _ _;
+  }
+
+  -- ---- lines
+
+  module _ (waits : Bool) (some : 0 < length p.state_sets) where
+    -- as many copies as state sets
+    sets-many : (f : ℕ → List Placed) (k : ℕ) (gs : List StateSetTree) → length (for_each_set f k gs) ≡ length gs
+    sets-many f k [] = refl
+    sets-many f k (x ∷ gs) = ap suc (sets-many f (k + 1) gs)
+
+    -- so it is of the links
+    as-many : length p.state_sets ≡ length ground.homes
+    as-many = sym (length-map (placed_sets p 0 p.state_sets) (λ places. map (home_in places) ls) ∙ sets-many (placed_in p) 0 p.state_sets)
+
+    -- the program without what it never reaches
+    abbrev program : Program
+    program = only_reached reached (program_meaning p ls waits)
+
+    -- what runs keep, by states
+    abbrev now-runs : AreAlikeInRuns (length p.state_sets) (λ n m. n ≡ m) Now In (CarriesOver hidden) Texts
+    now-runs = state-in-runs ground hidden right.wide (length p.state_sets) some as-many
+
+    -- and at the start
+    abbrev always-runs : AreAlikeInRuns (length p.state_sets) (λ n m. n ≡ m) (IsAlike always) (λ set state. IsAlike always) NothingMore Texts
+    always-runs = flow-in-runs always (length p.state_sets) some
+
+    -- a world that waits
+    to-always : (w u : World) → w.phase ≡ Waiting → Now w u → IsAlike always w u
+    to-always w u waiting e = record {
+      links = record { channels = e.links.channels; ties = e.links.ties; homes = e.links.homes; many = e.links.many };
+      outside = relisted (hidden_in hidden w) (each_always hidden) w u
+          (λ n k shows. inl (subst (λ (ps : List ℕ). has ps k ≡ false) (sym (place-at w.phase hidden w.copies n))
+          (subst (λ (phase : Live). has (places_by phase (places_for hidden n) (copy_of n w).state) k ≡ false) (sym waiting)
+          (subst (λ (ps : List ℕ). has ps k ≡ false) (always-at hidden n) shows)))) e.outside;
+    }
+
+    -- what is the same but for that is so by states
+    to-states : (w u : World) → IsAlike always w u → Now w u
+    to-states w u e = record {
+      links = record { channels = e.links.channels; ties = e.links.ties; homes = e.links.homes; many = e.links.many };
+      outside = relisted (each_always hidden) (hidden_in hidden w) w u
+          (λ n k shows. inl (subst (λ (ps : List ℕ). has ps k ≡ false) (sym (always-at hidden n))
+          (less-open (places_by w.phase (places_for hidden n) (copy_of n w).state) (places_for hidden n).always k (by-wide hidden right.wide w.phase n (copy_of n w).state k)
+          (subst (λ (ps : List ℕ). has ps k ≡ false) (place-at w.phase hidden w.copies n) shows)))) e.outside;
+    }
+
+    -- outcomes
+    weaker : {A : Type 0} (r s : Ran A) → Alike Out (IsAlike always) Texts r s → Alike Out Now Texts r s
+    weaker _ _ (BothGive v w u a b e t) = BothGive v w u a b (to-states w u e) t
+    weaker _ _ (BothFault fault line w u a b e t) = BothFault fault line w u a b (to-states w u e) t
+    weaker _ _ (FirstLeftOut fault line w a r out) = FirstLeftOut fault line w a r out
+    weaker _ _ (SecondLeftOut fault line u b r out) = SecondLeftOut fault line u b r out
+
+    -- the start
+    start-now : StartAgrees Out Now Texts program
+    start-now w u waiting e =
+        weaker _ _ (started-alike Out (length p.state_sets) (λ n m. n ≡ m) (IsAlike always) (λ set state. IsAlike always) NothingMore Texts always-runs program
+        (program-agrees Out Texts NoLines (texts-joined names) (IsAlike always) (λ set state. IsAlike always) NothingMore p reached pieces-always ls waits)
+        (λ set low x y k. always-runs.enters set (copy_of set x).state 0 true low (inl refl) x y k tt) w u (to-always w u waiting e))
+
+    -- a line without what is never reached
+    line-now : (budget ms : ℕ) (event : Event) (w u : World) → Now w u → Alike Out Now Texts (line_of program budget ms event w) (line_of program budget ms event u)
+    line-now budget ms event w u e =
+        line-alike Out (length p.state_sets) (λ n m. n ≡ m) Now In (CarriesOver hidden) Texts now-runs program
+        (program-agrees Out Texts NoLines (texts-joined names) Now In (CarriesOver hidden) p reached pieces-now ls waits) start-now budget ms ms refl event w u e
 
   -- what is known of links is let go
-  let-go : {A : Type 0} (r s : Ran A) → Alike (IsLeftOut g.lines) (IsAlike g) (SameButValues g.names) r s → Alike (IsLeftOut g.lines) (IsSameOutside g.hidden) (SameButValues g.names) r s
+  let-go : {A : Type 0} (r s : Ran A) → Alike Out Now Texts r s → Alike Out (IsSameByState hidden) Texts r s
   let-go _ _ (BothGive v w u a b e t) = BothGive v w u a b e.outside t
   let-go _ _ (BothFault fault line w u a b e t) = BothFault fault line w u a b e.outside t
   let-go _ _ (FirstLeftOut fault line w a r out) = FirstLeftOut fault line w a r out
   let-go _ _ (SecondLeftOut fault line u b r out) = SecondLeftOut fault line u b r out
 
-  -- a piece, by what it is
-  piece-agrees : (p : ProgramTree) (piece : PieceTree) → PieceFlows g p piece → PieceAgrees (IsLeftOut g.lines) (IsAlike g) (SameButValues g.names) NoLines (texts-joined g.names) p piece
-  piece-agrees p (Test set x) flows = flows
-  piece-agrees p (Action set b) flows = flows
+  -- states that a run can come to are so in the second world, too
+  reached-in-both : (w u : World) → IsSameByState hidden w u → AreReached p reached w → AreReached p reached u
+  reached-in-both w u e at going set = subst (IsIn p reached set) (e.copies set).state (at (λ ended. going (sym (ap (λ (v : World). v.phase) e.same) ∙ ended)) set)
 
--- ---- lines
+  -- in the first world a machine of the program can be
+  linked : (w : World) → CanBeIn p ls c w → HasLinks ground w
+  linked w can = record {
+    channels = ap (λ (r : Frame). r.channels) can.world_is.frame_is;
+    ties = ap (λ (r : Frame). r.ties) can.world_is.frame_is;
+    homes = ap (λ (r : Frame). r.homes) can.world_is.frame_is;
+    many = sym (length-map w.copies (λ (x : SetMemory). length x.words)) ∙ ap (λ (r : Frame). length r.words) can.world_is.frame_is
+        ∙ length-map (held_sets p 0 p.state_sets) words_of ∙ held-many (variables_of p) 0 p.state_sets
+        ∙ sym (length-map (placed_sets p 0 p.state_sets) (λ places. map (home_in places) ls) ∙ placed-many (placed_in p) 0 p.state_sets);
+  }
+    where
+      held-many : (f : ℕ → List CopyVariable) (k : ℕ) (gs : List StateSetTree) → length (for_each_set f k gs) ≡ length gs
+      held-many f k [] = refl
+      held-many f k (x ∷ gs) = ap suc (held-many f (k + 1) gs)
 
--- states that a run can come to are so in the second world, too
-reached-in-both : (hidden : List (List ℕ)) (p : ProgramTree) (c : Code) (w u : World) → IsSameOutside hidden w u → AreReached p (holds_in (table_of c)) w → AreReached p (holds_in (table_of c)) u
-reached-in-both hidden p c w u e at going set =
-    subst (IsIn p (holds_in (table_of c)) set) (e.copies set).state (at (λ ended. going (sym (ap (λ (v : World). v.phase) e.same) ∙ ended)) set)
+      placed-many : (f : ℕ → List Placed) (k : ℕ) (gs : List StateSetTree) → length (for_each_set f k gs) ≡ length gs
+      placed-many f k [] = refl
+      placed-many f k (x ∷ gs) = ap suc (placed-many f (k + 1) gs)
 
 -- the law
 pub lines_flow : LinesFlow
-lines_flow p ls c hidden lines names flows waits budget ms event w u right some can e =
-    let g : Ground = ground_of p ls c hidden lines names in
+lines_flow p ls c hidden lines names waits budget ms event w u right some can e =
     let reached = holds_in (table_of c) in
     let closed = reached_are_closed p reached right.code.reached in
-    let sets = length p.state_sets in
-    let links : HasLinks g w = record {
-      channels = ap (λ (r : Frame). r.channels) can.world_is.frame_is;
-      ties = ap (λ (r : Frame). r.ties) can.world_is.frame_is;
-      homes = ap (λ (r : Frame). r.homes) can.world_is.frame_is;
-    } in
-    let there : AreReached p reached u = reached-in-both hidden p c w u e can.reached in
-    let less = line_of (only_reached reached (program_meaning p ls waits)) budget ms event in
-    let both : Alike (IsLeftOut lines) (IsAlike g) (SameButValues names) (less w) (less u) =
-    line-alike (IsLeftOut lines) sets (λ n m. n ≡ m) (IsAlike g) (λ set state. IsAlike g) (SameButValues names) (flow-in-runs g sets some) (only_reached reached (program_meaning p ls waits))
-    (program-agrees (IsLeftOut lines) (IsAlike g) (SameButValues names) NoLines (texts-joined names) p reached
-    (λ name piece is. piece-agrees g p piece (pieces_flow p ls c hidden lines names flows right name piece is)) ls waits) budget ms ms refl event w u (record { links = links; outside = e }) in
-    subst (λ (r : Ran Live). Alike (IsLeftOut lines) (IsSameOutside hidden) (SameButValues names) r (line_of (program_meaning p ls waits) budget ms event u))
+    let there : AreReached p reached u = reached-in-both p ls c hidden lines names right w u e can.reached in
+    let less : World → Ran Live = λ x. line_of (only_reached reached (program_meaning p ls waits)) budget ms event x in
+    let both = line-now p ls c hidden lines names right waits some budget ms event w u (record { links = linked p ls c hidden lines names right w can; outside = e }) in
+    subst (λ (r : Ran Live). Alike (IsLeftOut lines) (IsSameByState hidden) (SameButValues names) r (line_of (program_meaning p ls waits) budget ms event u))
     (unreached_do_nothing p ls waits reached budget ms event w closed can.reached)
-    (subst (λ (r : Ran Live). Alike (IsLeftOut lines) (IsSameOutside hidden) (SameButValues names) (less w) r) (unreached_do_nothing p ls waits reached budget ms event u closed there)
-    (let-go g (less w) (less u) both))
+    (subst (λ (r : Ran Live). Alike (IsLeftOut lines) (IsSameByState hidden) (SameButValues names) (less w) r) (unreached_do_nothing p ls waits reached budget ms event u closed there)
+    (let-go p ls c hidden lines names right (less w) (less u) both))

@@ -1,6 +1,7 @@
 -- What a run of code does from two worlds that are the same outside, where a table is right of the code.
 use Rattle.std.proofs.Common.{◌≡◌, ◌∙◌, ◌*◌, ◌+◌, ◌-◌, ◌≤◌, ◌<◌, inl, inr, ⊎_elim, refl, sym, ap, subst, arith, ℕ, zero, suc, ℤ, Bool, true, false, List, [], ◌∷◌, ◌++◌, Option, None, Some, length, if◌then◌else◌}
 use Rattle.std.specs.Prelude.{slice_get}
+use Rattle.std.proofs.lemmas.List.{length-map}
 use Rattle.snl_arithmetic.specs.Arithmetic.{is_zero}
 use Rattle.snl_meaning.specs.declared.instrs.Instr.{Instr}
 use Rattle.snl_meaning.specs.declared.instrs.Instr.TheVariants.{JumpIfZero}
@@ -8,10 +9,10 @@ use Rattle.snl_meaning.specs.Frames.{Frame, frame_of}
 use Rattle.snl_meaning.specs.Keeping.{world_after}
 use Rattle.snl_meaning.specs.Ran.{Ran, also, then_do}
 use Rattle.snl_meaning.specs.Run.{PieceContext, with_returns, Step, done_by, step_of, Exit, Over, LeftFor, from_there, exec, credit, run_of}
-use Rattle.snl_meaning.specs.World.{World}
+use Rattle.snl_meaning.specs.World.{SetMemory, World}
 use Rattle.snl_meaning.proofs.Frames.{steps_keep_the_frame}
 use Rattle.snl_flows.specs.Fine.{IsFineAt}
-use Rattle.snl_flows.specs.Outside.{has, IsSameOutside}
+use Rattle.snl_flows.specs.Outside.{AreSameAt, has, IsSameOutside}
 use Rattle.snl_flows.specs.Quiet.{AreFine, ArePassed, IsPassed, IsQuietAt, height_at, join_at, others_on}
 use Rattle.snl_flows.specs.Tables.{Operand, Facts, Flow, Ground, HasLinks, IsReached, below, facts_at, first_facts, said_at}
 use Rattle.snl_flows.specs.Texts.{NoLines}
@@ -25,9 +26,21 @@ use Rattle.snl_flows.proofs.Steps.{After, AreBack, BothEnd, BothGo, BothGoOver, 
 use Rattle.snl_flows.proofs.Texts.{prints-same}
 use Rattle.snl_flows.proofs.Worlds.{SameOn, same-less, same-nowhere}
 
--- Two runs come to the same exit, and their worlds are the same outside.
-abbrev pub Ends : Ground → Exit → Exit → World → World → Type 0
-Ends g x y w u = (x ≡ y) × IsSameOutside g.hidden w u
+-- A piece is over, and words are the same, as a table says.
+abbrev pub KnownBehind : Flow → (set : ℕ) → Exit → World → World → Type 0
+KnownBehind f set (Over s) w u = AreSameAt set f.ends w u
+KnownBehind f set (LeftFor state) w u = AreSameAt set f.leaves w u
+KnownBehind f set _ w u = ⊥
+
+-- Two runs come to the same exit, and their worlds are the same outside, and at words of which the table says so.
+abbrev pub Ends : Ground → Flow → (set : ℕ) → Exit → Exit → World → World → Type 0
+Ends g f set x y w u = (x ≡ y) × IsSameOutside g.hidden w u × KnownBehind f set x w u
+
+-- a world with the frame of another one has as many copies
+pub many-by : (w v : World) → frame_of v ≡ frame_of w → length v.copies ≡ length w.copies
+many-by w v same =
+    let size : SetMemory → ℕ = λ c. length c.words in
+    sym (length-map v.copies size) ∙ ap (λ (r : Frame). length r.words) same ∙ length-map w.copies size
 
 -- numbers of which nothing is known, on two stacks
 others-hold : (many : ℕ) (xs ys s t : List ℤ) (os : List Operand) → length xs ≡ many → length ys ≡ many → HoldOf os s t → HoldOf (others_on many os) (xs ++ s) (ys ++ t)
@@ -39,13 +52,14 @@ others-hold (suc many) (x ∷ xs) [] s t os p q h = absurd (omega (arith, q))
 others-hold (suc many) (x ∷ xs) (y ∷ ys) s t os p q h = (tt, others-hold many xs ys s t os (omega (arith, p)) (omega (arith, q)) h)
 
 -- one step and then the rest of the run, where both runs come to an end
-then-over : (g : Ground) (F : Step → Step → World → World → Type 0) (r s : Ran Step) (go to : Step → World → Ran Exit) → AlikeTo g F r s → IsOver (then_do r go) → IsOver (then_do s to) →
-    ((x y : Step) (w u : World) → F x y w u → IsOver (go x w) → IsOver (to y u) → AlikeTo g (Ends g) (go x w) (to y u)) → AlikeTo g (Ends g) (then_do r go) (then_do s to)
-then-over g F _ _ go to (BothLead x y w u a b e t) over ends k =
-    also-to g (Ends g) a b (go x w) (to y u) t (k x y w u e (over-also a (go x w) over) (over-also b (to y u) ends))
-then-over g F _ _ go to (BothStop fault line w u a b e t) over ends k = BothStop fault line w u a b e t
-then-over g F _ _ go to (FirstStops fault line w a s left) over ends k = FirstStops fault line w a (then_do s to) left
-then-over g F _ _ go to (SecondStops fault line u b r left) over ends k = SecondStops fault line u b (then_do r go) left
+then-over : (g : Ground) (f : Flow) (set : ℕ) (F : Step → Step → World → World → Type 0) (r s : Ran Step) (go to : Step → World → Ran Exit) → AlikeTo g F r s →
+    IsOver (then_do r go) → IsOver (then_do s to) →
+    ((x y : Step) (w u : World) → F x y w u → IsOver (go x w) → IsOver (to y u) → AlikeTo g (Ends g f set) (go x w) (to y u)) → AlikeTo g (Ends g f set) (then_do r go) (then_do s to)
+then-over g f set F _ _ go to (BothLead x y w u a b e t) over ends k =
+    also-to g (Ends g f set) a b (go x w) (to y u) t (k x y w u e (over-also a (go x w) over) (over-also b (to y u) ends))
+then-over g f set F _ _ go to (BothStop fault line w u a b e t) over ends k = BothStop fault line w u a b e t
+then-over g f set F _ _ go to (FirstStops fault line w a s left) over ends k = FirstStops fault line w a (then_do s to) left
+then-over g f set F _ _ go to (SecondStops fault line u b r left) over ends k = SecondStops fault line u b (then_do r go) left
 
 module _ (g : Ground) (f : Flow) (set : ℕ) (code : List Instr) (fine : AreFine g set f code) where
   -- a world keeps its links
@@ -54,6 +68,7 @@ module _ (g : Ground) (f : Flow) (set : ℕ) (code : List Instr) (fine : AreFine
     channels = ap (λ (r : Frame). r.channels) same ∙ links.channels;
     ties = ap (λ (r : Frame). r.ties) same ∙ links.ties;
     homes = ap (λ (r : Frame). r.homes) same ∙ links.homes;
+    many = many-by w v same ∙ links.many;
   }
 
   -- so does one where all is the same but words that may differ
@@ -62,6 +77,7 @@ module _ (g : Ground) (f : Flow) (set : ℕ) (code : List Instr) (fine : AreFine
     channels = sym (ap (λ (x : World). x.channels) still.same) ∙ links.channels;
     ties = sym (ap (λ (x : World). x.ties) still.same) ∙ links.ties;
     homes = sym (ap (λ (x : World). x.homes) still.same) ∙ links.homes;
+    many = sym still.count ∙ links.many;
   }
 
   -- ---- one step
@@ -141,16 +157,16 @@ module _ (g : Ground) (f : Flow) (set : ℕ) (code : List Instr) (fine : AreFine
     -- What is claimed of both runs from where the ways come together.
     abbrev FromJoin : ℕ → Type 0
     FromJoin size = (n m : ℕ) (s t : List ℤ) (w u : World) → n ≤ size → HasLinks g w → HoldOf (facts_at f join).operands s t → SameOn g.hidden set (Here f (join ∷ c.returns)) w u →
-        IsOver (exec code n c join s w) → IsOver (exec code m c join t u) → AlikeTo g (Ends g) (exec code n c join s w) (exec code m c join t u)
+        IsOver (exec code n c join s w) → IsOver (exec code m c join t u) → AlikeTo g (Ends g f set) (exec code n c join s w) (exec code m c join t u)
 
     -- both runs of the ways
     ways-meet : (size n m : ℕ) (s t : List ℤ) (w u : World) (r q : Ran Exit) → n ≤ size → FromJoin size → HasLinks g w → HoldOf (below (facts_at f at).operands) s t →
-        SameOn g.hidden set (Here f (at ∷ c.returns)) w u → Arriving s n w r → Arriving t m u q → IsOver r → IsOver q → AlikeTo g (Ends g) r q
+        SameOn g.hidden set (Here f (at ∷ c.returns)) w u → Arriving s n w r → Arriving t m u q → IsOver r → IsOver q → AlikeTo g (Ends g f set) r q
     ways-meet size n m s t w u _ q low go links h e (FailedThere fault line v text left) second over ends = FirstStops fault line v text q left
     ways-meet size n m s t w u _ _ low go links h e (Arrived k xs v a short p still told) (FailedThere fault line x b left) over ends =
         SecondStops fault line x b (also a (exec code k c join (xs ++ s) v)) left
     ways-meet size n m s t w u _ _ low go links h e (Arrived k xs v a short p still told) (Arrived l ys x b near q other more) over ends =
-        also-to g (Ends g) a b (exec code k c join (xs ++ s) v) (exec code l c join (ys ++ t) x) (prints-same g.names a b told more)
+        also-to g (Ends g f set) a b (exec code k c join (xs ++ s) v) (exec code l c join (ys ++ t) x) (prints-same g.names a b told more)
         (go k l (xs ++ s) (ys ++ t) v x (omega (arith, short, low)) (links-still w v (subst (λ (i : ℕ). SameOn g.hidden i (Firm f) w v) is still) links) (operands-meet xs ys s t p q h)
         (worlds-meet w u v x e still other) (over-also a (exec code k c join (xs ++ s) v) over) (over-also b (exec code l c join (ys ++ t) x) ends))
 
@@ -158,13 +174,13 @@ module _ (g : Ground) (f : Flow) (set : ℕ) (code : List Instr) (fine : AreFine
     jumps-alike : (size n m : ℕ) (s t : List ℤ) (w u : World) → n ≤ size → FromJoin size → HasLinks g w → HoldOf (facts_at f at).operands s t →
         SameOn g.hidden set (Here f (at ∷ c.returns)) w u → IsOver (then_do (done_by c (JumpIfZero passed) at s w) (from_there c (exec code n))) →
         IsOver (then_do (done_by c (JumpIfZero passed) at t u) (from_there c (exec code m))) →
-        AlikeTo g (Ends g) (then_do (done_by c (JumpIfZero passed) at s w) (from_there c (exec code n))) (then_do (done_by c (JumpIfZero passed) at t u) (from_there c (exec code m)))
+        AlikeTo g (Ends g f set) (then_do (done_by c (JumpIfZero passed) at s w) (from_there c (exec code n))) (then_do (done_by c (JumpIfZero passed) at t u) (from_there c (exec code m)))
     jumps-alike size n m [] t w u low go links h e over ends = absurd over
     jumps-alike size n m (z ∷ s) [] w u low go links h e over ends = absurd h
     jumps-alike size n m (z ∷ s) (y ∷ t) w u low go links h e over ends =
         let first = over-also [] (exec code n c (way z) s w) over in
         let second = over-also [] (exec code m c (way y) t u) ends in
-        also-to g (Ends g) [] [] (exec code n c (way z) s w) (exec code m c (way y) t u) NoLines
+        also-to g (Ends g f set) [] [] (exec code n c (way z) s w) (exec code m c (way y) t u) NoLines
         (ways-meet size n m s t w u (exec code n c (way z) s w) (exec code m c (way y) t u) low go links h.1 e (way-arrives n z s w first) (way-arrives m y t u second) first second)
 
   -- ---- runs
@@ -173,30 +189,30 @@ module _ (g : Ground) (f : Flow) (set : ℕ) (code : List Instr) (fine : AreFine
   abbrev Claims : ℕ → Type 0
   Claims size = (n m : ℕ) (c : PieceContext) → n ≤ size → c.set ≡ set → IsOfGround g c → AreBack f c.returns → (at : ℕ) (s t : List ℤ) (w u : World) → HasLinks g w →
       IsReached f at → HoldOf (facts_at f at).operands s t → SameOn g.hidden set (Here f (at ∷ c.returns)) w u → IsOver (exec code n c at s w) → IsOver (exec code m c at t u) →
-      AlikeTo g (Ends g) (exec code n c at s w) (exec code m c at t u)
+      AlikeTo g (Ends g f set) (exec code n c at s w) (exec code m c at t u)
 
   -- one instruction, and the rest of the runs
   module _ (size : ℕ) (more : Claims size) (n m : ℕ) (c : PieceContext) (low : n ≤ size) (is : c.set ≡ set) (same : IsOfGround g c) (backs : AreBack f c.returns) (at : ℕ)
       (s t : List ℤ) (w u : World) (links : HasLinks g w) (h : HoldOf (facts_at f at).operands s t) (e : SameOn g.hidden set (Here f (at ∷ c.returns)) w u) where
     -- where the steps of both lead
     go : (x y : Step) (a b : World) → After g set f c.returns x y a b → HasLinks g a → IsOver (from_there c (exec code n) x a) → IsOver (from_there c (exec code m) y b) →
-        AlikeTo g (Ends g) (from_there c (exec code n) x a) (from_there c (exec code m) y b)
+        AlikeTo g (Ends g f set) (from_there c (exec code n) x a) (from_there c (exec code m) y b)
     go _ _ _ _ (BothGo pc s t a b there hold on) l first second = more n m c low is same backs pc s t a b l there hold on first second
     go _ _ _ _ (BothGoOver others pc s t a b back there hold on) l first second =
         more n m (with_returns c others) low is (record { functions = same.functions; formats = same.formats; named = same.named }) back pc s t a b l there hold on first second
-    go _ _ _ _ (BothEnd s a b outside) l first second = lead g (Ends g) (Over s) (Over s) a b (refl, outside)
-    go _ _ _ _ (BothLeave state a b outside) l first second = lead g (Ends g) (LeftFor state) (LeftFor state) a b (refl, outside)
+    go _ _ _ _ (BothEnd s a b outside known) l first second = lead g (Ends g f set) (Over s) (Over s) a b (refl, outside, known)
+    go _ _ _ _ (BothLeave state a b outside known) l first second = lead g (Ends g f set) (LeftFor state) (LeftFor state) a b (refl, outside, known)
     go _ _ _ _ (BothStick a b outside) l first second = absurd first
 
     -- What is claimed, by what stands there.
     abbrev Claim : Option Instr → Type 0
     Claim o = IsOver (then_do (step_of c o at s w) (from_there c (exec code n))) → IsOver (then_do (step_of c o at t u) (from_there c (exec code m))) →
-        AlikeTo g (Ends g) (then_do (step_of c o at s w) (from_there c (exec code n))) (then_do (step_of c o at t u) (from_there c (exec code m)))
+        AlikeTo g (Ends g f set) (then_do (step_of c o at s w) (from_there c (exec code n))) (then_do (step_of c o at t u) (from_there c (exec code m)))
 
     -- an instruction that does the same in both
     both : (i : Instr) → IsFineAt g set f at i → Claim (Some i)
     both i right first second =
-        then-over g (λ x y v z. After g set f c.returns x y v z × HasLinks g v) (done_by c i at s w) (done_by c i at t u) (from_there c (exec code n)) (from_there c (exec code m))
+        then-over g f set (λ x y v z. After g set f c.returns x y v z × HasLinks g v) (done_by c i at s w) (done_by c i at t u) (from_there c (exec code n)) (from_there c (exec code m))
         (step-alike c is same backs i at right s t w u links h e) first second (λ x y a b after. go x y a b after.0 after.1)
 
     -- a jump of which it does not matter where it leads
@@ -224,7 +240,7 @@ module _ (g : Ground) (f : Flow) (set : ℕ) (code : List Instr) (fine : AreFine
   -- a piece, at whose first instruction nothing is said
   pub run-alike : (c : PieceContext) → c.set ≡ set → IsOfGround g c → c.returns ≡ [] → (start : ℕ) → facts_at f start ≡ first_facts → (w u : World) → HasLinks g w →
       IsSameOutside g.hidden w u → IsOver (run_of c code start w) → IsOver (run_of c code start u) →
-      AlikeTo g (Ends g) (run_of c code start w) (run_of c code start u)
+      AlikeTo g (Ends g f set) (run_of c code start w) (run_of c code start u)
   run-alike c is same none start empty w u links e over ends =
       exec-alike (suc (credit c w) * length code) (suc (credit c w) * length code) (suc (credit c u) * length code) c (omega arith) is same (subst (AreBack f) (sym none) tt) start [] [] w u links
       (ap (λ (r : Facts). r.is_reached) empty) tt (same-nowhere g.hidden set (Here f (start ∷ c.returns)) w u nothing e) over ends

@@ -11,9 +11,9 @@ use Rattle.snl_meaning.specs.Run.{Entry, PieceContext, Step, GoesTo, GoesOver, E
 use Rattle.snl_meaning.specs.Words.{called_with, is_subscript, natural, stored, subscript}
 use Rattle.snl_meaning.specs.World.{World}
 use Rattle.snl_alike.specs.TwoRuns.{Agrees, KeepsAlike}
-use Rattle.snl_flows.specs.Fine.{AreTaken, Begins, IsElement, IsFineAt, LeadsAfter, LeadsTo, MayGetOther, Takes}
+use Rattle.snl_flows.specs.Fine.{AreKept, AreTaken, Begins, IsElement, IsFineAt, LeadsAfter, LeadsTo, MayGetOther, Takes}
 use Rattle.snl_flows.specs.LeftOut.{IsLeftOut}
-use Rattle.snl_flows.specs.Outside.{has, places_of, IsSameOutside}
+use Rattle.snl_flows.specs.Outside.{AreSameAt, has, places_of, IsSameOutside}
 use Rattle.snl_flows.specs.Tables.{Operand, Same, Within, IsSameIn, top_of, below, under, AreAllSame, IsNoMore, AreNoMore, Flow, Ground, IsOpen, IsReached, IsSameAt, MayDiffer, facts_at, is_loose, said_at}
 use Rattle.snl_flows.specs.Texts.{IsInLine, SameButValues}
 use Rattle.snl_flows.proofs.Kept.{keeps-words, plain, SameKept}
@@ -44,15 +44,15 @@ abbrev pub AreBack : Flow → List ℕ → Type 0
 AreBack f [] = Unit {0}
 AreBack f (at ∷ more) = AreNoMore (facts_at f at).operands (f.given ∷ []) × IsReached f at × AreBack f more
 
--- Two steps lead to the same address, with operands and worlds of which the table is right; both end with the same operands; both leave
--- for the same state; or both stick.
+-- Two steps lead to the same address, with operands and worlds of which the table is right; both end with the same operands, or leave for
+-- the same state, where it says that more is the same; or both stick.
 pub data After (g : Ground) (set : ℕ) (f : Flow) (returns : List ℕ) : Step → Step → World → World → Type 0 where
   BothGo : (pc : ℕ) (s t : List ℤ) (w u : World) → IsReached f pc → HoldOf (facts_at f pc).operands s t → SameOn g.hidden set (Here f (pc ∷ returns)) w u →
       After g set f returns (GoesTo pc s) (GoesTo pc t) w u
   BothGoOver : (others : List ℕ) (pc : ℕ) (s t : List ℤ) (w u : World) → AreBack f others → IsReached f pc → HoldOf (facts_at f pc).operands s t → SameOn g.hidden set (Here f (pc ∷ others)) w u →
       After g set f returns (GoesOver others pc s) (GoesOver others pc t) w u
-  BothEnd : (s : List ℤ) (w u : World) → IsSameOutside g.hidden w u → After g set f returns (EndsWith s) (EndsWith s) w u
-  BothLeave : (state : ℕ) (w u : World) → IsSameOutside g.hidden w u → After g set f returns (LeavesFor state) (LeavesFor state) w u
+  BothEnd : (s : List ℤ) (w u : World) → IsSameOutside g.hidden w u → AreSameAt set f.ends w u → After g set f returns (EndsWith s) (EndsWith s) w u
+  BothLeave : (state : ℕ) (w u : World) → IsSameOutside g.hidden w u → AreSameAt set f.leaves w u → After g set f returns (LeavesFor state) (LeavesFor state) w u
   BothStick : (w u : World) → IsSameOutside g.hidden w u → After g set f returns Sticks Sticks w u
 
 -- a subscript that passes the check is below the size
@@ -164,6 +164,10 @@ module _ (g : Ground) (f : Flow) (c : PieceContext) where
       ⊎_elim (λ (seen : IsOpen (places_of g.hidden c.set) b j). may.hides (subst (IsOpen (places_of g.hidden c.set) b) is seen))
       (λ (more : K at b j). let p : is_loose f b place ≡ true = may.loose in let q : is_loose f b j ≡ false = more.0 in
       let never : true ≡ false = sym p ∙ ap (is_loose f b) (sym is) ∙ q in absurd (cc)) here
+
+  -- words that are the same where a piece is over
+  pub kept : (at : ℕ) (places : List ℕ) (w u : World) → AreKept g c.set f at places → At at w u → AreSameAt c.set places w u
+  kept at places w u all e k here = let both = all k here in (e.copies c.set).words.at k (inr (refl, (both.1, inl both.0)))
 
   -- ---- instructions
 

@@ -18,7 +18,7 @@ copy-less : (P Q : ℕ → Type 0) (c d : SetMemory) → ((k : ℕ) → Q k → 
 copy-less P Q c d less e = record { state = e.state; entered = e.entered; words = agree-less P Q c.words d.words less e.words }
 
 -- one copy of two lists is another one
-copies-set : (P Q : ℕ → ℕ → Type 0) (cs ds : List SetMemory) (i : ℕ) (c d : SetMemory) → length cs ≡ length ds → ((j : ℕ) → (j ≡ i → ⊥) → (k : ℕ) → Q j k → P j k) → CopiesAgree (Q i) c d →
+pub copies-set : (P Q : ℕ → ℕ → Type 0) (cs ds : List SetMemory) (i : ℕ) (c d : SetMemory) → length cs ≡ length ds → ((j : ℕ) → (j ≡ i → ⊥) → (k : ℕ) → Q j k → P j k) → CopiesAgree (Q i) c d →
     ((j : ℕ) → CopiesAgree (P j) (slice_index_or cs j no_copy) (slice_index_or ds j no_copy)) →
     (j : ℕ) → CopiesAgree (Q j) (slice_index_or (slice_set cs i c) j no_copy) (slice_index_or (slice_set ds i d) j no_copy)
 copies-set P Q [] [] i c d long less new e j = record { state = refl; entered = refl; words = agree-same (Q j) [] }

@@ -223,6 +223,13 @@ module _ (g : Ground) (set : ℕ) (f : Flow) where
   takes None values os line = true
   takes (Some e) values os line = are_taken e.parameters values os line
 
+  -- ---- ends
+
+  -- Whether some words of the own copy are the same since they were written.
+  abbrev pub are_kept : (at : ℕ) → List ℕ → Bool
+  are_kept at [] = true
+  are_kept at (k ∷ ks) = has (said_at f at false) k && not (is_loose f false k) && are_kept at ks
+
   -- ---- instructions
 
   -- Whether what a table says of an instruction at an address is right.
@@ -272,5 +279,5 @@ module _ (g : Ground) (set : ℕ) (f : Flow) where
       && leads at (at + 1) (f.given ∷ [])
   is_fine_at at (Fit least greatest line) = (is_same_in (top_of (known_at at)) || has g.lines line) && leads at (at + 1) (known_at at)
   is_fine_at at Return = is_no_more f.given (top_of (known_at at)) && are_all_same (below (known_at at))
-  is_fine_at at (Leave state) = true
-  is_fine_at at End = are_all_same (known_at at)
+  is_fine_at at (Leave state) = are_kept at f.leaves
+  is_fine_at at End = are_all_same (known_at at) && are_kept at f.ends

@@ -29,7 +29,7 @@ writes_first = Push (pos 7) ∷ Store own 12 ∷ Drop ∷ Load own ∷ JumpIfZer
 
 -- Tables that say nothing where a piece begins.
 abbrev pub begins_empty : List Facts → List ℕ → Flow
-begins_empty rows loose = record { rows = first_facts ∷ rows; loose = loose; loose_words = []; heights = []; joins = []; given = Same }
+begins_empty rows loose = record { rows = first_facts ∷ rows; loose = loose; loose_words = []; heights = []; joins = []; given = Same; ends = []; leaves = [] }
 
 -- What is said where the variable is the same since it was written.
 abbrev pub now_same : Facts

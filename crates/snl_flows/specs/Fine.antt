@@ -12,7 +12,7 @@ use Rattle.snl_meaning.specs.Names.{format_text}
 use Rattle.snl_meaning.specs.Run.{Entry}
 use Rattle.snl_meaning.specs.Words.{element_place}
 use Rattle.snl_flows.specs.Outside.{has, places_of}
-use Rattle.snl_flows.specs.Tables.{Operand, Another, Same, Within, IsSameIn, CanBe, top_of, below, under, AreFirstSame, AreAllSame, IsNoMore, AreNoMore, Flow, Ground, MayDiffer, IsReached, IsSameAt, facts_at, said_at}
+use Rattle.snl_flows.specs.Tables.{Operand, Another, Same, Within, IsSameIn, CanBe, top_of, below, under, AreFirstSame, AreAllSame, IsNoMore, AreNoMore, Flow, Ground, MayDiffer, IsReached, IsSameAt, facts_at, is_loose, said_at}
 use Rattle.snl_flows.specs.Texts.{IsNamed}
 
 -- ---- words that are written
@@ -146,6 +146,12 @@ module _ (g : Ground) (set : ℕ) (f : Flow) where
   Takes None values os line = Unit {0}
   Takes (Some e) values os line = AreTaken e.parameters values os line
 
+  -- ---- ends
+
+  -- Some words of the own copy are the same since they were written, whatever else is hidden.
+  abbrev pub AreKept : (at : ℕ) → List ℕ → Type 0
+  AreKept at places = (k : ℕ) → has places k ≡ true → (has (said_at f at false) k ≡ true) × (is_loose f false k ≡ false)
+
   -- ---- instructions
 
   -- What a table says of an instruction at an address is right, if it is of the address.
@@ -196,5 +202,5 @@ module _ (g : Ground) (set : ℕ) (f : Flow) where
       × LeadsTo at (at + 1) (f.given ∷ [])
   IsFineAt at (Fit least greatest line) = (IsSameIn (top_of (operands_at at)) ⊎ (has g.lines line ≡ true)) × LeadsTo at (at + 1) (operands_at at)
   IsFineAt at Return = IsNoMore f.given (top_of (operands_at at)) × AreAllSame (below (operands_at at))
-  IsFineAt at (Leave state) = Unit {0}
-  IsFineAt at End = AreAllSame (operands_at at)
+  IsFineAt at (Leave state) = AreKept at f.leaves
+  IsFineAt at End = AreAllSame (operands_at at) × AreKept at f.ends

@@ -1,26 +1,30 @@
 -- What tables have to be for a program, and what holds of the program then.
-use Rattle.std.specs.Prelude.{◌≡◌, ◌<◌, ℕ, Bool, List, [], Some, length, slice_get, slice_index_or}
+use Rattle.std.specs.Prelude.{◌≡◌, ◌<◌, ℕ, Bool, true, false, List, [], Some, length, map, slice_get}
 use Rattle.snl_channels.specs.Links.{Link}
 use Rattle.snl_flat.specs.declared.code.Code.{Code}
 use Rattle.snl_flat.specs.declared.starts.Piece.{Piece}
+use Rattle.snl_flat.specs.declared.starts.Piece.TheVariants as piece
 use Rattle.snl_flat.specs.Heres.{name_by, scene_in}
-use Rattle.snl_flat.specs.Pieces.{IsCodeOf, PieceTree, Test, Action, kept_piece, piece_of, texts_of}
+use Rattle.snl_flat.specs.Pieces.{IsCodeOf, PieceTree, Test, Action, clause_at, kept_piece, piece_of, texts_of}
 use Rattle.snl_flat.specs.Starts.{entries_of, holds_in, start_in, table_of}
-use Rattle.snl_load.specs.Meaning.{program_meaning, state_left_for}
+use Rattle.snl_load.specs.Meaning.{program_meaning, state_left_for, target_of}
 use Rattle.snl_load.specs.Places.{channels, homes_in, placed_sets, ties_in}
 use Rattle.snl_machine.specs.Snapshots.{CanBeIn}
 use Rattle.snl_meaning.specs.declared.faults.Fault.{Fault}
 use Rattle.snl_meaning.specs.Effect.{block_effect, held_by}
+use Rattle.snl_meaning.specs.declared.instrs.Instr.{Instr}
 use Rattle.snl_meaning.specs.Ran.{then_do}
 use Rattle.snl_meaning.specs.World.{World}
 use Rattle.snl_schedule.specs.declared.events.Event.{Event}
+use Rattle.snl_schedule.specs.declared.plans.Destination.{Destination}
+use Rattle.snl_schedule.specs.declared.plans.Destination.TheVariants as to
 use Rattle.snl_schedule.specs.Event.{line_of}
-use Rattle.snl_syntax.specs.Programs.{ProgramTree}
+use Rattle.snl_syntax.specs.Programs.{ClauseTree, ProgramTree}
 use Rattle.snl_alike.specs.TwoRuns.{Agrees, Alike}
 use Rattle.snl_flows.specs.Quiet.{AreFine}
 use Rattle.snl_flows.specs.LeftOut.{IsLeftOut}
-use Rattle.snl_flows.specs.Outside.{IsSameOutside}
-use Rattle.snl_flows.specs.Tables.{Flow, Ground, HasLinks, facts_at, first_facts, no_flow}
+use Rattle.snl_flows.specs.Outside.{IsSameByState, IsSameOutside, Places, has, places_for, places_in, places_of}
+use Rattle.snl_flows.specs.Tables.{Flow, Ground, HasLinks, facts_at, first_facts}
 use Rattle.snl_flows.specs.Texts.{IsInLine, SameButValues}
 
 -- What holds for all state sets of a program with some links, its functions and its strings, where these places are hidden, overflows of
@@ -37,23 +41,63 @@ ground_of p ls c hidden lines names = record {
   formats = texts_of c;
 }
 
--- The table of a state set.
-abbrev pub flow_of : List Flow → ℕ → Flow
-flow_of flows set = slice_index_or flows set no_flow
-
 -- The state set on whose copy a piece runs.
 abbrev pub set_of : PieceTree → ℕ
 set_of (Test set e) = set
 set_of (Action set b) = set
 
--- The tables are right: the code is that of the program; where a piece of the program runs its table is right of the code, and says
--- nothing of where the piece begins. No name of a state set has a newline.
-pub record AreFlowsOf (p : ProgramTree) (ls : List Link) (c : Code) (hidden : List (List ℕ)) (lines : List ℕ) (names : List (List ℕ)) (flows : List Flow) : Type 0 where
+-- A piece can run while its state set is in a state: those of the state, and the program's own blocks in each.
+abbrev pub RunsIn : List Places → Piece → (state : ℕ) → Type 0
+RunsIn hidden (piece.Entry set s) state = s ≡ state
+RunsIn hidden (piece.Exit set s) state = s ≡ state
+RunsIn hidden (piece.Condition set s k) state = s ≡ state
+RunsIn hidden (piece.Block set s k) state = s ≡ state
+RunsIn hidden _ state = state < length (places_for hidden 0).states
+
+-- By state set: what is hidden in the state of a number.
+abbrev pub all_in : List Places → (state : ℕ) → List (List ℕ)
+all_in hidden state = map (λ (s : Places). places_in s state) hidden
+
+-- A table is right of the code, says nothing of an address, and lets only such words get what is not the same that are hidden in each state.
+pub record IsShown (g : Ground) (set : ℕ) (always : List ℕ) (code : List Instr) (start : ℕ) (f : Flow) : Type 0 where
+  pub fine : AreFine g set f code
+  pub free : facts_at f start ≡ first_facts
+  pub firm : (k : ℕ) → has f.loose k ≡ true → has always k ≡ true
+
+-- Some words are all those that are hidden in a state and not in another one.
+abbrev pub Covers : Places → (from to : ℕ) → List ℕ → Type 0
+Covers s from to known = (k : ℕ) → has (places_in s from) k ≡ true → has (places_in s to) k ≡ false → has known k ≡ true
+
+-- So it is where a clause leads to a state.
+abbrev pub CoversBy : Places → (from : ℕ) → Destination → List ℕ → Type 0
+CoversBy s from (to.State target) known = Covers s from target known
+CoversBy s from to.Exit known = Unit {0}
+
+-- By a table all of them are the same behind a block of a state, wherever it leads.
+pub record IsBehind (s : Places) (from : ℕ) (target : Destination) (f : Flow) : Type 0 where
+  pub ends : CoversBy s from target f.ends
+  pub leaves : (to : ℕ) → Covers s from to f.leaves
+
+-- It is so of the piece of a name, if that is the block of a clause.
+abbrev pub IsBehindPiece : ProgramTree → List Places → Piece → Flow → Type 0
+IsBehindPiece p hidden (piece.Block set state k) f =
+    (c : ClauseTree) → clause_at p set state k ≡ Some c → IsBehind (places_for hidden set) state (target_of (scene_in p set).here.states c.target) f
+IsBehindPiece p hidden _ f = Unit {0}
+
+-- A table shows of a piece, while its state set is in a state, that what is hidden decides nothing.
+pub record IsShownBy (p : ProgramTree) (ls : List Link) (c : Code) (hidden : List Places) (lines : List ℕ) (names : List (List ℕ)) (name : Piece) (piece : PieceTree) (state start : ℕ) : Type 0 where
+  pub flow : Flow
+  pub shown : IsShown (ground_of p ls c (all_in hidden state) lines names) (set_of piece) (places_for hidden (set_of piece)).always c.instrs.items start flow
+  pub behind : IsBehindPiece p hidden name flow
+
+-- What is hidden is right: the code is that of the program; some table shows it of each piece, in each state in which it can run; what is
+-- hidden in each state is so in every one; there is a first state; and no name of a state set has a newline.
+pub record AreFlowsOf (p : ProgramTree) (ls : List Link) (c : Code) (hidden : List Places) (lines : List ℕ) (names : List (List ℕ)) : Type 0 where
   pub code : IsCodeOf p c
-  pub fine : (name : Piece) (piece : PieceTree) → piece_of p name ≡ Some piece →
-      AreFine (ground_of p ls c hidden lines names) (set_of piece) (flow_of flows (set_of piece)) c.instrs.items
-  pub free : (name : Piece) (piece : PieceTree) (start : ℕ) → piece_of p name ≡ Some piece → start_in (table_of c) name ≡ Some start →
-      facts_at (flow_of flows (set_of piece)) start ≡ first_facts
+  pub shown : (name : Piece) (piece : PieceTree) (state start : ℕ) → piece_of p name ≡ Some piece → RunsIn hidden name state → start_in (table_of c) name ≡ Some start →
+      IsShownBy p ls c hidden lines names name piece state start
+  pub wide : (set state k : ℕ) → has (places_for hidden set).always k ≡ true → has (places_in (places_for hidden set) state) k ≡ true
+  pub some : 0 < length (places_for hidden 0).states
   pub named : (set : ℕ) → IsInLine (name_by (slice_get p.state_sets set))
 
 -- Two worlds are the same outside, and have the links of the program.
@@ -68,18 +112,25 @@ PieceFlows g p (Action set b) = Agrees (IsLeftOut g.lines) (IsAlike g) (SameButV
 
 -- ---- laws
 
--- Where tables are right, each piece comes out alike that a run can come to.
-abbrev pub PiecesFlow : Type 0
-PiecesFlow = (p : ProgramTree) (ls : List Link) (c : Code) (hidden : List (List ℕ)) (lines : List ℕ) (names : List (List ℕ)) (flows : List Flow) →
-    AreFlowsOf p ls c hidden lines names flows →
-    (name : Piece) (piece : PieceTree) → kept_piece (holds_in (table_of c)) p name ≡ Some piece → PieceFlows (ground_of p ls c hidden lines names) p piece
+-- Some places are hidden in a state, and all are that are so in each one.
+pub record IsBetween (s : Places) (state : ℕ) (places : List ℕ) : Type 0 where
+  pub low : (k : ℕ) → has s.always k ≡ true → has places k ≡ true
+  pub high : (k : ℕ) → has places k ≡ true → has (places_in s state) k ≡ true
 
--- So does a line, whatever its event is, from worlds that are the same outside, in the first of which a machine of the program can be.
+-- Where what is hidden is right, each piece comes out alike that a run can come to, from worlds that are the same but at such places, whatever
+-- is hidden of the other copies.
+abbrev pub PiecesFlow : Type 0
+PiecesFlow = (p : ProgramTree) (ls : List Link) (c : Code) (hidden : List Places) (lines : List ℕ) (names : List (List ℕ)) → AreFlowsOf p ls c hidden lines names →
+    (name : Piece) (piece : PieceTree) (state : ℕ) (places : List (List ℕ)) → kept_piece (holds_in (table_of c)) p name ≡ Some piece → RunsIn hidden name state →
+    IsBetween (places_for hidden (set_of piece)) state (places_of places (set_of piece)) → PieceFlows (ground_of p ls c places lines names) p piece
+
+-- So does a line, whatever its event is, from worlds that are the same but for what is hidden in their states, in the first of which a
+-- machine of the program can be.
 abbrev pub LinesFlow : Type 0
-LinesFlow = (p : ProgramTree) (ls : List Link) (c : Code) (hidden : List (List ℕ)) (lines : List ℕ) (names : List (List ℕ)) (flows : List Flow)
+LinesFlow = (p : ProgramTree) (ls : List Link) (c : Code) (hidden : List Places) (lines : List ℕ) (names : List (List ℕ))
     (waits : Bool) (budget ms : ℕ) (event : Event) (w u : World) →
-    AreFlowsOf p ls c hidden lines names flows → 0 < length p.state_sets → CanBeIn p ls c w → IsSameOutside hidden w u →
-    Alike (IsLeftOut lines) (IsSameOutside hidden) (SameButValues names) (line_of (program_meaning p ls waits) budget ms event w)
+    AreFlowsOf p ls c hidden lines names → 0 < length p.state_sets → CanBeIn p ls c w → IsSameByState hidden w u →
+    Alike (IsLeftOut lines) (IsSameByState hidden) (SameButValues names) (line_of (program_meaning p ls waits) budget ms event w)
     (line_of (program_meaning p ls waits) budget ms event u)
 
 -- With no line nothing is left out, and with no name texts are the same.

@@ -1,5 +1,7 @@
 -- Two worlds that are the same but for words that decide nothing: some places of each copy, and the words of functions.
-use Rattle.std.specs.Prelude.{◌≡◌, ◌==◌, ◌||◌, ℕ, pos, Bool, false, List, [], ◌∷◌, length, slice_index_or}
+use Rattle.std.specs.Prelude.{◌≡◌, ◌==◌, ◌||◌, ℕ, pos, Bool, true, false, List, [], ◌∷◌, length, slice_index_or}
+use Rattle.snl_meaning.specs.declared.live.Live.{Live}
+use Rattle.snl_meaning.specs.declared.live.Live.TheVariants.{Waiting, Running, Ended}
 use Rattle.snl_meaning.specs.World.{SetMemory, World, copy_of}
 
 -- A number is one of some.
@@ -24,3 +26,46 @@ pub record IsSameOutside (hidden : List (List ℕ)) (w u : World) : Type 0 where
   pub long : length w.shared ≡ length u.shared
   pub count : length w.copies ≡ length u.copies
   pub copies : (set : ℕ) → IsSameCopy (places_of hidden set) (copy_of set w) (copy_of set u)
+
+-- Some words of a copy are the same in two worlds.
+abbrev pub AreSameAt : (set : ℕ) → (places : List ℕ) → World → World → Type 0
+AreSameAt set places w u = (k : ℕ) → has places k ≡ true → slice_index_or (copy_of set w).words k (pos 0) ≡ slice_index_or (copy_of set u).words k (pos 0)
+
+-- ---- by state
+
+-- The places of a state set's copy that are hidden whatever its state is, and by its state.
+pub record Places : Type 0 where
+  pub always : List ℕ
+  pub states : List (List ℕ)
+
+-- Where nothing is hidden.
+abbrev pub no_places : Places
+no_places = record { always = []; states = [] }
+
+-- Those of a state set.
+abbrev pub places_for : List Places → (set : ℕ) → Places
+places_for hidden set = slice_index_or hidden set no_places
+
+-- Those that are hidden in a state,
+abbrev pub places_in : Places → (state : ℕ) → List ℕ
+places_in s state = slice_index_or s.states state s.always
+
+-- and in one by how far the program has come: as long as it waits, those of each state.
+abbrev pub places_by : Live → Places → (state : ℕ) → List ℕ
+places_by Waiting s state = s.always
+places_by Running s state = places_in s state
+places_by Ended s state = places_in s state
+
+-- By state set: those that are hidden by the states of copies,
+abbrev pub places_with : Live → List Places → List SetMemory → List (List ℕ)
+places_with phase [] copies = []
+places_with phase (s ∷ hidden) [] = places_by phase s 0 ∷ places_with phase hidden []
+places_with phase (s ∷ hidden) (c ∷ copies) = places_by phase s c.state ∷ places_with phase hidden copies
+
+-- and those that are hidden in a world.
+abbrev pub hidden_in : List Places → World → List (List ℕ)
+hidden_in hidden w = places_with w.phase hidden w.copies
+
+-- Two worlds are the same but for the words that are hidden in the first one, and for words of functions.
+abbrev pub IsSameByState : List Places → World → World → Type 0
+IsSameByState hidden w u = IsSameOutside (hidden_in hidden w) w u

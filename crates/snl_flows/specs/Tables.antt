@@ -1,5 +1,5 @@
 -- What is known at an address of code of two runs from worlds that are the same outside: which words are the same in both, and which operands.
-use Rattle.std.specs.Prelude.{◌≡◌, ◌⊎◌, ◌≤◌, ◌<◌, ℕ, zero, suc, Bool, true, false, List, [], ◌∷◌, Option, slice_index_or}
+use Rattle.std.specs.Prelude.{◌≡◌, ◌⊎◌, ◌≤◌, ◌<◌, ℕ, zero, suc, Bool, true, false, List, [], ◌∷◌, Option, length, slice_index_or}
 use Rattle.snl_meaning.specs.declared.ties.Tied.{Tied}
 use Rattle.snl_meaning.specs.Run.{Entry}
 use Rattle.snl_meaning.specs.World.{World}
@@ -83,7 +83,8 @@ first_facts = record { is_reached = true; own = []; functions = []; operands = [
 
 -- What is known of the code where pieces of a state set run: a row for each address; and the hidden words of the own copy, and the words of
 -- functions, that may get what is not the same. Of these nothing is known, whatever rows say. By address, how many operands the code has
--- there, and where the two ways of a jump come together, if no matter which of them is gone; and what is known of what functions give.
+-- there, and where the two ways of a jump come together, if no matter which of them is gone; and what is known of what functions give. Words of the
+-- own copy that are the same where a piece is over, and where one leaves for a state.
 pub record Flow : Type 0 where
   pub rows : List Facts
   pub loose : List ℕ
@@ -91,10 +92,12 @@ pub record Flow : Type 0 where
   pub heights : List ℕ
   pub joins : List ℕ
   pub given : Operand
+  pub ends : List ℕ
+  pub leaves : List ℕ
 
 -- Of a state set of which nothing is said.
 abbrev pub no_flow : Flow
-no_flow = record { rows = []; loose = []; loose_words = []; heights = []; joins = []; given = Same }
+no_flow = record { rows = []; loose = []; loose_words = []; heights = []; joins = []; given = Same; ends = []; leaves = [] }
 
 -- What holds for all state sets: by state set the hidden places of its copy; the lines of which overflows, and values that do not fit, are
 -- left out; the channels whose puts may have other values, and the strings of the `printf`s that may; what a program's channels are named,
@@ -109,11 +112,12 @@ pub record Ground : Type 0 where
   pub functions : List Entry
   pub formats : List (List ℕ)
 
--- A world has these channels and these links.
+-- A world has these channels and these links, and as many copies.
 pub record HasLinks (g : Ground) (w : World) : Type 0 where
   pub channels : w.channels ≡ g.channels
   pub ties : w.ties ≡ g.ties
   pub homes : w.homes ≡ g.homes
+  pub many : length w.copies ≡ length g.homes
 
 -- What a table says of an address.
 abbrev pub facts_at : Flow → ℕ → Facts
