@@ -18,5 +18,5 @@ mod wrongs;
 pub use lines::{begins_program, cut, has_end};
 pub use meanings::Lexicon;
 pub use names::{ProgramNames, Store};
-pub use setup::{Ground, Machines, Scouted, Scouts, SearchFacts, scouted_by};
+pub use setup::{Ground, Machines, Scouted, Scouting, SearchFacts, scouted_in};
 pub use wanted::{Wanted, WishedEnd, wanted_of};

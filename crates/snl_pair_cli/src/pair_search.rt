@@ -1,13 +1,12 @@
 //! `snl same --search`.
 
-use snc::{Judgement, Status, judged, macros_of};
+use snc::Status;
 use snc_cli::{source_in, write};
 use snl_alphabet::{Bounds, Limits, Watches, WishedValues};
 use snl_args::{Call, SameWords, SearchWords};
 use snl_cli::{Both, both_of, tell_messages, write_trace};
 use snl_equivalence::{
-    Budgets, PairAnswer, PairFault, PairWishes, Prepared, Prepares, Question, Sides, prepared_by,
-    search_pair,
+    PairAnswer, PairFault, PairWishes, Prepared, Question, Sides, prepared_in, search_pair,
 };
 use snl_same::{Filter, Side};
 use snl_trace_cli::units_for;
@@ -113,50 +112,6 @@ fn told_wrong(rt: &HostRuntime, words: &SearchWords, fault: &PairFault) -> u8 {
     }
 }
 
-/// One of the two sources: its text, the name of its file, and the recorded trace that is named, if one is.
-#[derive(Clone, Copy)]
-struct Source<'s> {
-    text: &'s [u8],
-    file: &'s str,
-    like: &'s Option<File>,
-}
-
-/// Makes a program ready for the search. It is of a type parameter, since a function that knows a checked program and what is made of it is
-/// dear to prove.
-fn prepared<T: Prepares<W> + Drop, W: Watches>(
-    rt: &HostRuntime,
-    program: Box<T>,
-    asked: Asked,
-    like: &Option<File>,
-    limits: &mut Limits<W>,
-) -> Result<Option<Box<Prepared>>, AllocError> {
-    let job = &asked.call.job;
-    let budgets = Budgets {
-        search: asked.search.budget,
-        run: job.budget,
-    };
-    let macros = macros_of(job);
-    let prepared = prepared_by(rt.alloc(), program, &macros, budgets, like, limits)?;
-    Ok(Some(prepared))
-}
-
-/// Makes the program of a source ready for the search; None where it has an error.
-fn prepared_in<W: Watches>(
-    rt: &HostRuntime,
-    source: Source,
-    asked: Asked,
-    limits: &mut Limits<W>,
-) -> Result<Option<Box<Prepared>>, AllocError> {
-    let name = source.file.as_bytes();
-    match judged(rt.alloc(), name, source.text, asked.call.job.options) {
-        Ok(Judgement { checked, .. }) => match checked {
-            Some(checked) => prepared(rt, checked, asked, source.like, limits),
-            None => Ok(None),
-        },
-        Err(error) => Err(error),
-    }
-}
-
 /// Two programs that are ready for the search.
 #[derive(Drop)]
 struct Pair {
@@ -165,30 +120,14 @@ struct Pair {
 }
 
 /// Makes the programs of both sources ready for the search; None where one has an error.
-fn pair_in<W: Watches>(
-    rt: &HostRuntime,
-    asked: Asked,
-    texts: Texts,
-    wishes: &PairWishes,
-    limits: &mut Limits<W>,
-) -> Result<Option<Pair>, AllocError> {
-    let old = Source {
-        text: texts.old,
-        file: asked.call.job.file.as_str(),
-        like: &wishes.old_like,
-    };
-    let new = Source {
-        text: texts.new,
-        file: asked.words.new.file.as_str(),
-        like: &wishes.new_like,
-    };
-    let Some(old) = prepared_in(rt, old, asked, limits)? else {
-        return Ok(None);
-    };
-    let Some(new) = prepared_in(rt, new, asked, limits)? else {
-        return Ok(None);
-    };
-    Ok(Some(Pair { old, new }))
+fn pair_in(rt: &HostRuntime, asked: Asked, texts: Texts) -> Result<Option<Pair>, AllocError> {
+    let budget = asked.search.budget;
+    let old = prepared_in(rt.alloc(), &asked.call.job, texts.old, budget)?;
+    let new = prepared_in(rt.alloc(), &asked.words.new, texts.new, budget)?;
+    match (old.made, new.made) {
+        (Some(old), Some(new)) => Ok(Some(Pair { old, new })),
+        _ => Ok(None),
+    }
 }
 
 /// Searches two programs. Answers the status.
@@ -230,7 +169,7 @@ fn searched_in(
     };
     let clock = Clock::new(rt, asked.begun, asked.search.seconds);
     let mut limits = Limits::new(rt.alloc(), clock, wishes.bounds.memory);
-    match pair_in(rt, asked, texts, &wishes, &mut limits)? {
+    match pair_in(rt, asked, texts)? {
         Some(pair) => Ok(searched(rt, asked, &wishes, pair, sides, &mut limits)),
         None => Ok(Status::SourceErrors.code()),
     }

@@ -1,14 +1,14 @@
 //! `snl search --watch`.
 
 use crate::pair_search::{Wished, wishes_of};
-use snc::{Answered, Judgement, Status, judged, macros_of};
+use snc::{Answered, Status};
 use snc_args::Job;
 use snc_cli::{source_in, tell, write};
-use snl_alphabet::{Limits, ProgramInputs, Watches, WishFault};
+use snl_alphabet::{Limits, ProgramInputs, Watches, WishFault, heard_of};
 use snl_args::SearchWords;
 use snl_cli::{Asked, WatchPair, check_both, job_of_file, places_of, watch_pair_of, write_trace};
 use snl_equivalence::PairWishes;
-use snl_guards::{Crew, Hears, Watched, WatchedAnswer, WatchedQuestion, heard_by, search_watched};
+use snl_guards::{Crew, Watched, WatchedAnswer, WatchedQuestion, input_facts_in, search_watched};
 use snl_machine::Machine;
 use snl_observer::{ForbiddenState, Program, program_of};
 use snl_safety::Forbidden;
@@ -131,24 +131,6 @@ fn searched<'c>(
     }
 }
 
-/// What a program hears that may have an error; None where it has one. It is of a type parameter, since a function that knows a checked
-/// program and what is made of it is dear to prove.
-fn heard_if<T: Hears<W> + Drop, W: Watches>(
-    alloc: Global,
-    job: &Job,
-    program: Option<Box<T>>,
-    machine: &Machine,
-    like: &Option<File>,
-    limits: &mut Limits<W>,
-) -> Result<Option<ProgramInputs>, WishFault> {
-    let Some(program) = program else {
-        return Ok(None);
-    };
-    let macros = macros_of(job);
-    let heard = heard_by(alloc, program, machine, &macros, like, limits)?;
-    Ok(Some(heard))
-}
-
 /// What the program hears, by its source once more; None where that has an error.
 fn heard_in<W: Watches>(
     rt: &HostRuntime,
@@ -158,11 +140,12 @@ fn heard_in<W: Watches>(
     limits: &mut Limits<W>,
 ) -> Result<Option<ProgramInputs>, WishFault> {
     let Asked { source, call, .. } = guard.asked;
-    let job = &call.job;
-    match judged(rt.alloc(), job.file.as_bytes(), source, job.options) {
-        Ok(Judgement { checked, .. }) => heard_if(rt.alloc(), job, checked, machine, like, limits),
-        Err(_) => Err(WishFault::Memory),
-    }
+    let Answered { made, .. } = input_facts_in(rt.alloc(), &call.job, source)?;
+    let Some(mut said) = made else {
+        return Ok(None);
+    };
+    let heard = heard_of(rt.alloc(), machine, said.as_mut(), like, limits)?;
+    Ok(Some(heard))
 }
 
 /// All teams, by the one that judges. None where a source has an error.

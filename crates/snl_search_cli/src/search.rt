@@ -1,11 +1,11 @@
 //! `snl search`.
 
-use snc::{Judgement, Status, judged, macros_of};
+use snc::{Answered, Status};
 use snc_cli::write;
 use snl_alphabet::{Day, Limits, Stops, WishFault, Wishes, trace_in};
 use snl_args::{SearchWords, StopWords};
 use snl_cli::{Asked, part_of, write_suite, write_trace};
-use snl_lexicon::Scouts;
+use snl_lexicon::{Scouted, Scouting, scouted_in};
 use snl_search::{SearchAnswer, search};
 use snl_wishes::{Clock, memory_of, opened, told_fault, told_unread, wishes_over};
 use std::alloc::{AllocError, Global};
@@ -69,15 +69,14 @@ fn told_answer(rt: &HostRuntime, words: &SearchWords, answer: &SearchAnswer) -> 
     answer.verdict.code()
 }
 
-/// Searches a program. Answers the status.
-fn searched<T: Scouts + Drop>(
+/// Searches a program that was scouted. Answers the status.
+fn searched(
     rt: &HostRuntime,
-    checked: Box<T>,
+    scouted: Scouted,
     asked: Asked,
     words: &SearchWords,
     begun: Option<Instant>,
 ) -> u8 {
-    let call = asked.call;
     let day = match day_in(rt, words, begun) {
         Ok(day) => day,
         Err(code) => return code,
@@ -86,33 +85,10 @@ fn searched<T: Scouts + Drop>(
         Ok(wishes) => wishes,
         Err(status) => return status.code(),
     };
-    let macros = macros_of(&call.job);
     let clock = Clock::new(rt, begun, words.seconds);
-    match search(
-        rt.alloc(),
-        checked,
-        &macros,
-        call.job.budget,
-        &wishes,
-        clock,
-    ) {
+    match search(rt.alloc(), scouted, &wishes, clock) {
         Ok(answer) => told_answer(rt, words, &answer),
         Err(fault) => told_fault(rt, words, &fault),
-    }
-}
-
-/// Searches a program that may have an error. Answers the status. It is of a type parameter, since a function that knows a checked program
-/// is dear to prove.
-fn searched_if<T: Scouts + Drop>(
-    rt: &HostRuntime,
-    checked: Option<Box<T>>,
-    asked: Asked,
-    words: &SearchWords,
-    begun: Option<Instant>,
-) -> u8 {
-    match checked {
-        Some(checked) => searched(rt, checked, asked, words, begun),
-        None => Status::SourceErrors.code(),
     }
 }
 
@@ -123,16 +99,24 @@ pub fn answered_search(
     words: &SearchWords,
     begun: Option<Instant>,
 ) -> u8 {
-    let Asked { source, call, .. } = asked;
-    let file = call.job.file.as_bytes();
-    match judged(rt.alloc(), file, source, call.job.options) {
-        Ok(Judgement { messages, checked }) => {
-            let code = searched_if(rt, checked, asked, words, begun);
-            if code != Status::Memory.code() {
-                asked.tell(rt, messages.as_slice());
-            }
-            code
-        }
-        Err(_) => Status::Memory.code(),
+    let scouting = Scouting {
+        budget: words.budget,
+        never: words.never.as_slice(),
+    };
+    let Ok(Answered { messages, made }) = scouted_in(
+        rt.alloc(),
+        &asked.call.job,
+        asked.source,
+        &scouting,
+    ) else {
+        return Status::Memory.code();
+    };
+    let code = match made {
+        Some(scouted) => searched(rt, Box::into_inner(scouted), asked, words, begun),
+        None => Status::SourceErrors.code(),
+    };
+    if code != Status::Memory.code() {
+        asked.tell(rt, messages.as_slice());
     }
+    code
 }

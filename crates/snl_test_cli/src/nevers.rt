@@ -1,13 +1,13 @@
 //! What no search may find: the test of `NAME.never`.
 
 use crate::trial::push_lines;
-use snc::{Job, Judgement, Status, judged};
+use snc::{Answered, Job, Status};
 use snl_alphabet::WishFault;
 use snl_args::{Call, CallFault, SearchWords, Word, read_call};
 use snl_cli::{
     Folder, Halt, Verdict, job_of, program_source, small_text, stuck, wrong, wrong_bytes,
 };
-use snl_lexicon::Scouts;
+use snl_lexicon::{Scouted, Scouting, scouted_in};
 use snl_suite::{Never, Program, never_in};
 use snl_trials::{SearchTrial, sought};
 use snl_wishes::{Clock, wishes_over};
@@ -163,24 +163,21 @@ fn verdict_by(alloc: Global, sought: &SearchTrial) -> Result<Verdict, AllocError
     Ok(Verdict::Wrong(text))
 }
 
-/// Searches a program for what a file says.
-fn searched<T: Scouts + Drop>(
+/// Searches a program that was scouted for what the words of a file say.
+fn searched(
     rt: &HostRuntime,
-    checked: Box<T>,
-    job: &Job,
+    scouted: Scouted,
+    words: &SearchWords,
     name: &str,
-    aim: &Aim,
+    is_ever: bool,
 ) -> Result<Verdict, Halt> {
-    let Word::Search(words) = &*aim.call.word else {
-        return Err(wrong_never(rt, name, "it asks for no search"));
-    };
     let wishes = match wishes_over(rt, words, &[], None, None) {
         Ok(wishes) => wishes,
         Err(Status::Memory) => return Err(Halt::End(Status::Memory)),
         Err(_) => return Err(unread_like(rt, name)),
     };
     let clock = Clock::new(rt, Instant::now(rt).ok(), words.seconds);
-    match sought(rt.alloc(), checked, job, &wishes, clock, aim.is_ever) {
+    match sought(rt.alloc(), scouted, &wishes, clock, is_ever) {
         Ok(sought) => Ok(verdict_by(rt.alloc(), &sought)?),
         Err(fault) => Err(wrong_wish(rt, name, &fault)),
     }
@@ -196,23 +193,7 @@ pub fn wrong_source(alloc: Global, what: &str, messages: &[u8]) -> Result<Halt, 
     Ok(wrong_bytes(text))
 }
 
-/// What comes of a search of a program that may have errors, which its messages tell then. It is of a type parameter, since a function that
-/// knows a checked program is dear to prove.
-fn searched_if<T: Scouts + Drop>(
-    rt: &HostRuntime,
-    checked: Option<Box<T>>,
-    messages: &[u8],
-    job: &Job,
-    name: &str,
-    aim: &Aim,
-) -> Result<Verdict, Halt> {
-    match checked {
-        Some(checked) => searched(rt, checked, job, name, aim),
-        None => Err(wrong_source(rt.alloc(), "the program", messages)?),
-    }
-}
-
-/// What comes of a search of a source.
+/// What comes of a search of a source. Where it has errors, its messages tell them.
 fn tested_source(
     rt: &HostRuntime,
     source: &[u8],
@@ -220,11 +201,17 @@ fn tested_source(
     name: &str,
     aim: &Aim,
 ) -> Result<Verdict, Halt> {
-    match judged(rt.alloc(), job.file.as_bytes(), source, job.options) {
-        Ok(Judgement { messages, checked }) => {
-            searched_if(rt, checked, messages.as_slice(), job, name, aim)
-        }
-        Err(_) => Err(Halt::End(Status::Memory)),
+    let Word::Search(words) = &*aim.call.word else {
+        return Err(wrong_never(rt, name, "it asks for no search"));
+    };
+    let scouting = Scouting {
+        budget: words.budget,
+        never: words.never.as_slice(),
+    };
+    let Answered { messages, made } = scouted_in(rt.alloc(), job, source, &scouting)?;
+    match made {
+        Some(scouted) => searched(rt, Box::into_inner(scouted), words, name, aim.is_ever),
+        None => Err(wrong_source(rt.alloc(), "the program", messages.as_slice())?),
     }
 }
 

@@ -1,14 +1,11 @@
 //! A search of a program, as a test: nothing may be found.
 
 ghost use Rattle.std.specs.Prelude.{◌≡◌, [], map, string_bytes, IfOk, IfSome, IsSomeAnd, IsTrue, None};
-ghost use Rattle.std.specs.Option.{option_map, unwrap_or};
 ghost use Rattle.snl_search.specs.Shown.{IsShown};
 ghost use Rattle.snl_trials.specs.Certain.{Reaches};
 
-use snc::macros_of;
-use snc_args::Job;
 use snl_alphabet::{Verdict, Watches, WishFault, Wishes};
-use snl_lexicon::Scouts;
+use snl_lexicon::Scouted;
 use snl_search::{SearchAnswer, Searched, search};
 use std::alloc::Global;
 
@@ -48,29 +45,27 @@ fn is_certain(answer: &SearchAnswer, is_ever: bool) -> bool
     }
 }
 
-/// Searches traces of a checked program over a small alphabet, the shortest first, for what it must not do. Answers whether it is certain
-/// that none of them does it: of those with as many lines as are wished, or of all, and with no overflow left out. The program is dropped.
+/// Searches traces over a small alphabet, the shortest first, for what a program must not do, which was scouted by `scouted_in` of
+/// `snl_lexicon`. Answers whether it is certain that none of them does it: of those with as many lines as are wished, or of all, and with
+/// no overflow left out.
 ///
 /// What is wrong with the wishes is an error; so is that memory ran out.
-pub fn sought<T: Scouts + Drop, W: Watches + Drop>(
+pub fn sought<W: Watches + Drop>(
     alloc: Global,
-    checked: Box<T>,
-    job: &Job,
+    scouted: Scouted,
     wishes: &Wishes,
     watch: W,
     is_ever: bool,
 ) -> Result<SearchTrial, WishFault>
     ensures shown { IfOk result (λ t. IsTrue t.is_right → IsSomeAnd t.none (λ some.
-        IsShown (T.scouted checked.value (unwrap_or (option_map string_bytes job.now.macros) [])
-        job.now.budget) wishes.now.part wishes.now.day (map string_bytes wishes.now.never.items)
+        IsShown scouted wishes.now.part wishes.now.day (map string_bytes wishes.now.never.items)
         (map string_bytes wishes.now.ends.items) t.text.items some)) }
     ensures reaches { IfOk result (λ t. IsTrue t.is_right → IsSomeAnd t.none (λ some.
         Reaches is_ever wishes.now.bounds.lines some.bound)) }
     ensures whole { IfOk result (λ t. IsTrue t.is_right → IsSomeAnd t.none (λ some.
         some.omissions.items ≡ [])) }
 {
-    let macros = macros_of(job);
-    let answer = search(alloc, checked, &macros, job.budget, wishes, watch)?;
+    let answer = search(alloc, scouted, wishes, watch)?;
     let is_right = is_certain(&answer, is_ever);
     let SearchAnswer { text, none, .. } = answer;
     Ok(SearchTrial {

@@ -1,7 +1,5 @@
-use Rattle.std.proofs.Common.{ℕ, List, map, subst}
-use Rattle.std.specs.Option.{IsSomeAnd}
+use Rattle.std.proofs.Common.{map}
 use Rattle.std.specs.Prelude.{string_bytes}
-use Rattle.snl_search.specs.declared.certificate.Searched.{Searched}
 use Rattle.snl_search.specs.Shown.{IsShown}
 use Rattle.snl_trials.proofs.CertainLaws.{shown-there, reaches-there}
 use Rattle.snl_trials.proofs.nevers.sought.Goals as goal
@@ -10,12 +8,9 @@ use Rattle.snl_trials.proofs.nevers.sought.Goals as goal
 pub returns-clause-shown : goal.returns-clause-shown
 returns-clause-shown g c is_right =
     let answer = c.in_ok-answer.answer in
-    let Of : List ℕ → Searched → Type 0 = λ macros.
-    IsShown (g.T.Scouts.scouted c.args.checked.value macros c.args.job.now.budget) c.args.wishes.now.part c.args.wishes.now.day
-    (map string_bytes c.args.wishes.now.never.items) (map string_bytes c.args.wishes.now.ends.items) answer.text.items in
-    subst (λ (macros : List ℕ). IsSomeAnd answer.none (Of macros)) c.macros_of-macros.ensures
-    (shown-there (Of c.macros_of-macros.result.text.now) answer.none c.args.wishes.now.bounds.lines c.in_ok-answer.ensures.none
-    (c.in_ok-answer.ensures.certain (c.is_certain-is_right.ensures.nothing is_right)))
+    shown-there (IsShown c.args.scouted c.args.wishes.now.part c.args.wishes.now.day (map string_bytes c.args.wishes.now.never.items)
+    (map string_bytes c.args.wishes.now.ends.items) answer.text.items) answer.none c.args.wishes.now.bounds.lines c.in_ok-answer.ensures.none
+    (c.in_ok-answer.ensures.certain (c.is_certain-is_right.ensures.nothing is_right))
 
 -- and it reaches as far as was asked for
 pub returns-clause-reaches : goal.returns-clause-reaches
