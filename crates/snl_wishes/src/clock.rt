@@ -4,6 +4,9 @@ use snl_alphabet::Watches;
 use std::io::IsTerminal;
 use std::time::{Duration, Instant};
 
+/// The clock is looked at once in so many times that a search asks whether to go on: a look takes a fifteenth of what a short line does.
+const EACH: u32 = 16;
+
 /// The clock of a search, which tells once a second how far it has come where standard error is a terminal.
 #[derive(Drop)]
 pub struct Clock<'c> {
@@ -18,6 +21,8 @@ pub struct Clock<'c> {
     since: Duration,
     /// How long after the call began it has to be over.
     most: Duration,
+    /// How often the search may ask before the clock is looked at.
+    left: u32,
     /// How long it takes at most to check the levels that are whole: no longer than to search them, since it does each line once.
     check: Duration,
 }
@@ -37,6 +42,7 @@ impl<'c> Clock<'c> {
             seconds,
             since: Duration::from_secs(0),
             most: Duration::from_secs(u64::from(seconds)),
+            left: 0,
             check: Duration::from_secs(0),
         }
     }
@@ -68,6 +74,10 @@ fn tell_progress(
 
 impl Watches for Clock<'_> {
     fn goes_on(&mut self, worlds: usize, levels: usize) -> bool {
+        if self.left > 0 {
+            self.left -= 1;
+            return true;
+        }
         let Some(begun) = self.begun else {
             return true;
         };
@@ -75,7 +85,9 @@ impl Watches for Clock<'_> {
             return true;
         };
         tell_progress(self.rt, &mut self.told, now, worlds, levels);
-        now.duration_since(begun).saturating_add(self.check) < self.most
+        let goes_on = now.duration_since(begun).saturating_add(self.check) < self.most;
+        self.left = if goes_on { EACH - 1 } else { 0 };
+        goes_on
     }
 
     fn has_time(&mut self) -> bool {
