@@ -77,7 +77,7 @@ ss s { state a { when (v) { v = 0; count++; } state a } }
 LEFT_OUT = """
   starts: 2; V 0 1
   channels: V 0 1; gaps: 0, wake
-  never, but an overflow of count (line 4) (2 worlds; 1 of 1 clause)
+  never, but an overflow of v (line 4), count (line 4) (2 worlds; 1 of 1 clause)
 """
 WRONG = "program wrong option +s;\nss s { state a { when (y) {} state a } }\n"
 
