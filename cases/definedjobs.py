@@ -104,10 +104,19 @@ def interrupted(begun, folder):
     status, stdout, stderr = ended(call)
     left = [it.name for it in folder.iterdir()]
     said = stderr.startswith("definitions: stopped when ") and stderr.endswith(" different\n") and stderr.count("\n") == 1
-    alive = [it for it in Path("/proc").glob("[0-9]*/environ") if f"TMPDIR={folder}".encode() in read(it)]
+    alive, until = running(folder), time.monotonic() + 10
+    # One that was killed may take a moment, where others want the processors.
+    while alive and time.monotonic() < until:
+        time.sleep(0.05)
+        alive = running(folder)
     if status != STATUS_OF_INTERRUPT or stdout or not said or left or alive:
         return f"status {status}, {left} is left, {len(alive)} run on: {stdout}{stderr}"
     return ""
+
+
+def running(folder):
+    """The processes of a call, by the folder of their files."""
+    return [it for it in Path("/proc").glob("[0-9]*/environ") if f"TMPDIR={folder}".encode() in read(it)]
 
 
 def read(path):
