@@ -7,6 +7,9 @@ use std::time::{Duration, Instant};
 /// The clock is looked at once in so many times that a search asks whether to go on: a look takes a fifteenth of what a short line does.
 const EACH: u32 = 16;
 
+/// Where so many milliseconds have passed since the last look, lines are long: then it is looked at the next time, too.
+const LONG: u64 = 10;
+
 /// The clock of a search, which tells once a second how far it has come where standard error is a terminal.
 #[derive(Drop)]
 pub struct Clock<'c> {
@@ -21,7 +24,9 @@ pub struct Clock<'c> {
     since: Duration,
     /// How long after the call began it has to be over.
     most: Duration,
-    /// How often the search may ask before the clock is looked at.
+    /// When the clock was looked at last.
+    looked: Option<Instant>,
+    /// How often the search may ask before it is looked at again.
     left: u32,
     /// How long it takes at most to check the levels that are whole: no longer than to search them, since it does each line once.
     check: Duration,
@@ -42,6 +47,7 @@ impl<'c> Clock<'c> {
             seconds,
             since: Duration::from_secs(0),
             most: Duration::from_secs(u64::from(seconds)),
+            looked: None,
             left: 0,
             check: Duration::from_secs(0),
         }
@@ -52,6 +58,16 @@ impl<'c> Clock<'c> {
         let begun = self.begun?;
         let now = Instant::now(self.rt).ok()?;
         Some(now.duration_since(begun))
+    }
+
+    /// How often the search may ask before the next look, by the time of this one.
+    fn pause(&mut self, now: Instant) -> u32 {
+        let pause = match self.looked {
+            Some(last) if now.duration_since(last) < Duration::from_millis(LONG) => EACH - 1,
+            _ => 0,
+        };
+        self.looked = Some(now);
+        pause
     }
 }
 
@@ -86,7 +102,8 @@ impl Watches for Clock<'_> {
         };
         tell_progress(self.rt, &mut self.told, now, worlds, levels);
         let goes_on = now.duration_since(begun).saturating_add(self.check) < self.most;
-        self.left = if goes_on { EACH - 1 } else { 0 };
+        let pause = self.pause(now);
+        self.left = if goes_on { pause } else { 0 };
         goes_on
     }
 
