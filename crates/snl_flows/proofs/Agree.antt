@@ -17,16 +17,17 @@ agree-same P xs = record { long = refl; at = λ k p. refl }
 pub agree-less : (P Q : ℕ → Type 0) (xs ys : List ℤ) → ((k : ℕ) → Q k → P k) → AgreeOn P xs ys → AgreeOn Q xs ys
 agree-less P Q xs ys less e = record { long = e.long; at = λ k q. e.at k (less k q) }
 
--- where the same is written in both, they agree there, and elsewhere where they did
-set-same : (xs ys : List ℤ) (i j : ℕ) (z : ℤ) → length xs ≡ length ys → ((j ≡ i → ⊥) → slice_index_or xs j (pos 0) ≡ slice_index_or ys j (pos 0)) →
-    slice_index_or (slice_set xs i z) j (pos 0) ≡ slice_index_or (slice_set ys i z) j (pos 0)
-set-same [] [] i j z long h = refl
-set-same [] (y ∷ ys) i j z long h = absurd (omega (arith, long))
-set-same (x ∷ xs) [] i j z long h = absurd (omega (arith, long))
-set-same (x ∷ xs) (y ∷ ys) zero zero z long h = refl
-set-same (x ∷ xs) (y ∷ ys) zero (suc j) z long h = h (λ (e : suc j ≡ zero). absurd (omega (arith, e)))
-set-same (x ∷ xs) (y ∷ ys) (suc i) zero z long h = h (λ (e : zero ≡ suc i). absurd (omega (arith, e)))
-set-same (x ∷ xs) (y ∷ ys) (suc i) (suc j) z long h = set-same xs ys i j z (omega (arith, long)) (λ other. h (λ (e : suc j ≡ suc i). other (omega (arith, e))))
+-- where each gets a word, they agree there if those are the same, and elsewhere where they did
+set-each : (xs ys : List ℤ) (i j : ℕ) (a b : ℤ) → length xs ≡ length ys → (j ≡ i → a ≡ b) → ((j ≡ i → ⊥) → slice_index_or xs j (pos 0) ≡ slice_index_or ys j (pos 0)) →
+    slice_index_or (slice_set xs i a) j (pos 0) ≡ slice_index_or (slice_set ys i b) j (pos 0)
+set-each [] [] i j a b long same h = refl
+set-each [] (y ∷ ys) i j a b long same h = absurd (omega (arith, long))
+set-each (x ∷ xs) [] i j a b long same h = absurd (omega (arith, long))
+set-each (x ∷ xs) (y ∷ ys) zero zero a b long same h = same refl
+set-each (x ∷ xs) (y ∷ ys) zero (suc j) a b long same h = h (λ (e : suc j ≡ zero). absurd (omega (arith, e)))
+set-each (x ∷ xs) (y ∷ ys) (suc i) zero a b long same h = h (λ (e : zero ≡ suc i). absurd (omega (arith, e)))
+set-each (x ∷ xs) (y ∷ ys) (suc i) (suc j) a b long same h =
+    set-each xs ys i j a b (omega (arith, long)) (λ (e : j ≡ i). same (ap suc e)) (λ other. h (λ (e : suc j ≡ suc i). other (omega (arith, e))))
 
 -- where something is written in both, they agree elsewhere where they did
 set-apart : (xs ys : List ℤ) (i j : ℕ) (a b : ℤ) → (j ≡ i → ⊥) → slice_index_or xs j (pos 0) ≡ slice_index_or ys j (pos 0) →
@@ -44,7 +45,7 @@ set-apart xs ys i j a b other h = beside xs i j a other ∙ h ∙ sym (beside ys
 pub agree-set : (P : ℕ → Type 0) (xs ys : List ℤ) (i : ℕ) (z : ℤ) → AgreeOn P xs ys → AgreeOn (λ k. P k ⊎ (k ≡ i)) (slice_set xs i z) (slice_set ys i z)
 agree-set P xs ys i z e = record {
   long = set-many xs i z ∙ e.long ∙ sym (set-many ys i z);
-  at = λ k known. set-same xs ys i k z e.long (λ other. ⊎_elim (λ p. e.at k p) (λ same. absurd (other same)) known);
+  at = λ k known. set-each xs ys i k z z e.long (λ here. refl) (λ other. ⊎_elim (λ p. e.at k p) (λ same. absurd (other same)) known);
 }
 
 -- other words at a place of which nothing is said
@@ -73,11 +74,29 @@ agree-zeroed (suc n) P xs ys place e =
         split zero (suc place) low = absurd (omega (arith, low))
         split (suc k) (suc place) low = ⊎_elim (λ (e : k ≡ place). inl (ap suc e)) (λ (m : suc place ≤ k). inr (omega (arith, m))) (split k place (omega (arith, low)))
 
+-- words from a place on, each of which is the same where they have to agree
+pub agree-overwritten-by : (zs vs : List ℤ) (P : ℕ → Type 0) (xs ys : List ℤ) (place : ℕ) → length zs ≡ length vs →
+    ((k : ℕ) → k < length zs → P (place + k) → slice_index_or zs k (pos 0) ≡ slice_index_or vs k (pos 0)) → AgreeOn P xs ys → AgreeOn P (overwritten xs place zs) (overwritten ys place vs)
+agree-overwritten-by [] [] P xs ys place many same e = e
+agree-overwritten-by [] (v ∷ vs) P xs ys place many same e = absurd (omega (arith, many))
+agree-overwritten-by (z ∷ zs) [] P xs ys place many same e = absurd (omega (arith, many))
+agree-overwritten-by (z ∷ zs) (v ∷ vs) P xs ys place many same e =
+    agree-overwritten-by zs vs P (slice_set xs place z) (slice_set ys place v) (suc place) (omega (arith, many))
+    (λ k low known. same (suc k) (omega (arith, low)) (subst P (shifted place k) known))
+    (record {
+      long = set-many xs place z ∙ e.long ∙ sym (set-many ys place v);
+      at = λ k known. set-each xs ys place k z v e.long (λ here. same 0 (omega arith) (subst P (first k place here) known)) (λ other. e.at k known);
+    })
+  where
+    first : (k place : ℕ) → k ≡ place → k ≡ place + 0
+    first k place here = omega (arith, here)
+
+    shifted : (place k : ℕ) → suc place + k ≡ place + suc k
+    shifted place k = omega arith
+
 -- the same words from a place on
 pub agree-overwritten : (zs : List ℤ) (P : ℕ → Type 0) (xs ys : List ℤ) (place : ℕ) → AgreeOn P xs ys → AgreeOn P (overwritten xs place zs) (overwritten ys place zs)
-agree-overwritten [] P xs ys place e = e
-agree-overwritten (z ∷ zs) P xs ys place e =
-    agree-overwritten zs P (slice_set xs place z) (slice_set ys place z) (suc place) (agree-less (λ k. P k ⊎ (k ≡ place)) P _ _ (λ k p. inl p) (agree-set P xs ys place z e))
+agree-overwritten zs P xs ys place e = agree-overwritten-by zs zs P xs ys place refl (λ k low known. refl) e
 
 -- words from a place on that are the same are so as a list
 pub agree-words : (n : ℕ) (P : ℕ → Type 0) (xs ys : List ℤ) (place : ℕ) → ((k : ℕ) → k < n → P (place + k)) → AgreeOn P xs ys → words_at xs place n ≡ words_at ys place n

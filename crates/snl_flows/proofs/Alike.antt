@@ -1,23 +1,28 @@
 -- That two worlds are the same but at some places of each copy, and have the links of a program, is a relation that all steps of a run keep.
-use Rattle.std.proofs.Common.{◌≡◌, ◌∙◌, ◌-◌, ◌<◌, refl, ap, subst, ℕ, Bool, true, false, List, Option, None, Some, if◌then◌else◌}
-use Rattle.std.specs.Prelude.{codes, decimal}
-use Rattle.snl_meaning.specs.Links.{with_elements}
+use Rattle.std.proofs.Common.{◌≡◌, ◌∙◌, ◌+◌, ◌-◌, ◌<◌, ⊎_elim, refl, sym, ap, subst, ℕ, ℤ, Bool, true, false, List, Option, None, Some, length, slice_get, if◌then◌else◌}
+use Rattle.std.specs.Prelude.{codes, decimal, slice_index_or}
+use Rattle.std.proofs.lemmas.Bool.{false≢true, ltb-true}
+use Rattle.snl_meaning.specs.declared.ties.Tied.{Tied}
+use Rattle.snl_meaning.specs.Frames.{room_in}
+use Rattle.snl_meaning.specs.Links.{buffer_of, is_queued, queue_of, with_buffer, with_elements}
 use Rattle.snl_meaning.specs.Printing.{print_line}
-use Rattle.snl_meaning.specs.World.{World, copy_of}
+use Rattle.snl_meaning.specs.World.{SetMemory, World, copy_of, no_copy, words_at}
 use Rattle.snl_meaning.proofs.Sizes.{set-many}
 use Rattle.snl_output.specs.Lines.{start_line, go_line, exit_line, fault_line, fault_text, space}
 use Rattle.snl_schedule.specs.Event.{wake_before}
 use Rattle.snl_schedule.specs.Turn.{entered_in}
 use Rattle.snl_alike.specs.Lines.{EndsLine, Newline}
 use Rattle.snl_alike.specs.Runs.{AreAlikeInRuns, NothingMore, WakesAlike, NoWakes, Wakes}
-use Rattle.snl_alike.specs.TwoRuns.{KeepsAlike, rest_of, with_rest}
+use Rattle.snl_alike.specs.TwoRuns.{KeepsAlike, common_of, with_common}
 use Rattle.snl_flows.specs.Flows.{IsAlike}
-use Rattle.snl_flows.specs.Outside.{IsSameOutside}
-use Rattle.snl_flows.specs.Tables.{Ground}
+use Rattle.snl_flows.specs.Outside.{AreSameOutside, IsSameCopy, IsSameOutside, has, places_of}
+use Rattle.snl_flows.specs.Tables.{Ground, room_of}
 use Rattle.snl_flows.specs.Texts.{SameButValues, NoLines}
-use Rattle.snl_flows.proofs.Agree.{agree-overwritten}
+use Rattle.snl_flows.proofs.Agree.{agree-overwritten, agree-words}
+use Rattle.snl_flows.proofs.Buffers.{KeepsStale, handed-keeps, refreshed-keeps}
+use Rattle.snl_flows.proofs.Links.{links-elements, links-same, links-with, room-is}
 use Rattle.snl_flows.proofs.Texts.{ends-behind, one-line, print-ends, texts-joined}
-use Rattle.snl_flows.proofs.Worlds.{Known, SameOn, copy-change, same-nowhere, same-outside, words-agree, words-change}
+use Rattle.snl_flows.proofs.Worlds.{Fresh, Known, SameOn, buffer-change, buffer-comes, copy-change, same-nowhere, same-outside, words-agree, words-change}
 
 -- ---- lines of a run
 
@@ -47,28 +52,75 @@ module _ (g : Ground) where
   Nowhere b k = ⊥
 
   -- two worlds, of which nothing more is known
-  bare : (set : ℕ) (w u : World) → IsSameOutside g.hidden w u → SameOn g.hidden set Nowhere w u
-  bare set w u e = same-nowhere g.hidden set Nowhere w u (λ b k p. p) e
+  bare : (set : ℕ) (w u : World) → IsSameOutside g.hidden g.stale w u → SameOn g set Nowhere w u
+  bare set w u e = same-nowhere g set Nowhere w u (λ b k p. p) e
 
   -- a line at the same time
   same-line : (line : ℕ → List ℕ) → ((ms : ℕ) → EndsLine (line ms)) → (w u : World) → IsAlike g w u → SameButValues g.names (line w.time) (line u.time)
   same-line line ends w u e =
       subst (λ (ms : ℕ). SameButValues g.names (line w.time) (line ms)) (ap (λ (v : World). v.time) e.outside.same) (one-line g.names (line w.time) (ends w.time))
 
+  -- the same values come to a copy
+  pub elements-come : (set place : ℕ) (zs : List ℤ) (w u : World) → IsAlike g w u → IsAlike g (with_elements set place zs w) (with_elements set place zs u)
+  elements-come set place zs w u e = record {
+    behind = e.behind;
+    links = links-elements g set place zs w e.links;
+    outside = same-outside g set Nowhere (with_elements set place zs w) (with_elements set place zs u)
+        (words-change g set Nowhere Nowhere false _ _ w u (λ k p. p)
+        (agree-overwritten zs (Known g set Nowhere false) _ _ place (words-agree g set Nowhere false w u (bare set w u e.outside))) (bare set w u e.outside));
+  }
+
+  -- what comes to links comes alike
+  pub flow-stale : KeepsStale g (IsAlike g)
+  flow-stale = record {
+    links = λ w u e. e.links;
+    same = λ w u e. e.outside.same;
+    changes = λ v w cs xs bs copies shared buffers phase links e. record {
+      behind = e.behind;
+      links = links;
+      outside = record {
+        same = refl;
+        long = subst (λ (ys : List ℤ). length ys ≡ length xs) (sym shared) e.outside.long;
+        count = subst (λ (ws : List SetMemory). length ws ≡ length cs) (sym copies) e.outside.count;
+        copies = subst (λ (ws : List SetMemory). (n : ℕ) → IsSameCopy (places_of g.hidden n) (slice_index_or ws n no_copy) (slice_index_or cs n no_copy)) (sym copies) e.outside.copies;
+        buffers = subst (λ (ys : List ℤ). AreSameOutside g.stale ys bs) (sym buffers) e.outside.buffers;
+      };
+    };
+    comes = λ set link home t w u at begins e. record {
+      behind = e.behind;
+      links = links-elements g set home (buffer_of t w) w e.links;
+      outside = same-outside g set Nowhere _ _ (buffer-comes g set Nowhere home t w u
+          (λ k low stale known. ⊎_elim (λ (seen : has (places_of g.hidden set) (home + k) ≡ false). false≢true (sym seen ∙ e.behind.hides set link k home t at begins low stale)) (λ never. never)
+          known) (bare set w u e.outside));
+    };
+    fills = λ t zs w u e. record {
+      behind = e.behind;
+      links = links-same g w (with_buffer t zs w) refl refl refl refl refl e.links;
+      outside = same-outside g 0 Nowhere _ _ (buffer-change g 0 Nowhere t zs w u (bare 0 w u e.outside));
+    };
+    queues = queued-same;
+  }
+    where
+      -- what a queue gets
+      queued-same : (link : ℕ) (t : Tied) (w u : World) → slice_get g.ties link ≡ Some t → is_queued link w ≡ true → IsAlike g w u →
+          words_at w.buffers t.from (queue_of link w).width ≡ words_at u.buffers t.from (queue_of link w).width
+      queued-same link t w u at some e =
+          let room : room_of g link ≡ room_in (queue_of link w) = room-is g w link e.links in
+          agree-words (queue_of link w).width (Fresh g 0) w.buffers u.buffers t.from
+          (λ k low. e.behind.queued link k t at (subst (λ (r : ℕ × ℕ). 0 < r.0) (sym room) (ltb-true 0 (queue_of link w).size some)) (subst (λ (r : ℕ × ℕ). k < r.1) (sym room) low))
+          (bare 0 w u e.outside).buffers
+
   -- of a state set
   pub flow-keeps : (set : ℕ) → KeepsAlike set (IsAlike g) (SameButValues g.names)
   flow-keeps set = record {
-    rest = λ w u e. ap rest_of e.outside.same;
-    rest_changes = λ r w u phase homes ties channels e. record {
-      links = record { channels = channels ∙ e.links.channels; ties = ties ∙ e.links.ties; homes = homes ∙ e.links.homes; many = e.links.many };
-      outside = record { same = ap (with_rest r) e.outside.same; long = e.outside.long; count = e.outside.count; copies = e.outside.copies };
+    rest = λ w u e. ap common_of e.outside.same;
+    rest_changes = λ r w u phase homes ties channels queues e. record {
+      behind = e.behind;
+      links = links-with g r w homes ties channels queues e.links;
+      outside = record { same = ap (with_common r) e.outside.same; long = e.outside.long; count = e.outside.count; copies = e.outside.copies; buffers = e.outside.buffers };
     };
-    comes = λ place zs w u e. record {
-      links = record { channels = e.links.channels; ties = e.links.ties; homes = e.links.homes; many = set-many w.copies set _ ∙ e.links.many };
-      outside = same-outside g.hidden set Nowhere (with_elements set place zs w) (with_elements set place zs u)
-          (words-change g.hidden set Nowhere Nowhere false _ _ w u (λ k p. p)
-          (agree-overwritten zs (Known g.hidden set Nowhere false) _ _ place (words-agree g.hidden set Nowhere false w u (bare set w u e.outside))) (bare set w u e.outside));
-    };
+    takes = λ place link item more w u at holds e. elements-come set place item w u e;
+    hands = λ link t zs w u is none e. handed-keeps g (IsAlike g) flow-stale (Some set) link t zs w u e;
     prints = λ name text w u e. same-line (λ ms. print_line ms name text) (λ ms. print-ends ms name text) w u e;
     silent = NoLines;
     joined = texts-joined g.names;
@@ -82,14 +134,15 @@ module _ (g : Ground) where
   -- a state that is entered
   enter : (set state : ℕ) (is_timed : Bool) (w u : World) → IsAlike g w u → IsAlike g (entered_in set state is_timed w) (entered_in set state is_timed u)
   enter set state is_timed w u e = record {
-    links = record { channels = e.links.channels; ties = e.links.ties; homes = e.links.homes; many = set-many w.copies set _ ∙ e.links.many };
-    outside = same-outside g.hidden set Nowhere (entered_in set state is_timed w) (entered_in set state is_timed u)
-        (copy-change g.hidden set Nowhere (record (copy_of set w) { state = state; entered = if is_timed then w.time else (copy_of set w).entered })
+    behind = e.behind;
+    links = links-same g w (entered_in set state is_timed w) refl refl refl refl (set-many w.copies set _) e.links;
+    outside = same-outside g set Nowhere (entered_in set state is_timed w) (entered_in set state is_timed u)
+        (copy-change g set Nowhere (record (copy_of set w) { state = state; entered = if is_timed then w.time else (copy_of set w).entered })
         (record (copy_of set u) { state = state; entered = if is_timed then u.time else (copy_of set u).entered }) w u
         (record { state = refl; entered = at is_timed; words = (on.copies set).words }) on);
   }
     where
-      on : SameOn g.hidden set Nowhere w u
+      on : SameOn g set Nowhere w u
       on = bare set w u e.outside
 
       at : (b : Bool) → (if b then w.time else (copy_of set w).entered) ≡ (if b then u.time else (copy_of set u).entered)
@@ -105,22 +158,33 @@ module _ (g : Ground) where
     states = λ set low w u e. (e.outside.copies set).state;
     inside = λ set low w u e. e;
     outside = λ set state w u e. e;
+    refreshes = λ set low w u e. refreshed-keeps g (IsAlike g) flow-stale set w u e;
     enters = λ set from state is_timed low either w u e l. enter set state is_timed w u e;
     becomes = λ phase waits w u e. record {
-      links = record { channels = e.links.channels; ties = e.links.ties; homes = e.links.homes; many = e.links.many };
-      outside = record { same = ap (λ (v : World). record v { phase = phase }) e.outside.same; long = e.outside.long; count = e.outside.count; copies = e.outside.copies };
+      behind = e.behind;
+      links = links-same g w (record w { phase = phase }) refl refl refl refl refl e.links;
+      outside = record {
+        same = ap (λ (v : World). record v { phase = phase }) e.outside.same;
+        long = e.outside.long;
+        count = e.outside.count;
+        copies = e.outside.copies;
+        buffers = e.outside.buffers;
+      };
     };
     opens = λ w u e. record {
-      links = record { channels = e.links.channels; ties = e.links.ties; homes = e.links.homes; many = e.links.many };
-      outside = record { same = ap (λ (v : World). record v { due = None }) e.outside.same; long = e.outside.long; count = e.outside.count; copies = e.outside.copies };
+      behind = e.behind;
+      links = links-same g w (record w { due = None }) refl refl refl refl refl e.links;
+      outside = record { same = ap (λ (v : World). record v { due = None }) e.outside.same; long = e.outside.long; count = e.outside.count; copies = e.outside.copies; buffers = e.outside.buffers };
     };
     wakes = λ w u e. record {
-      links = record { channels = e.links.channels; ties = e.links.ties; homes = e.links.homes; many = e.links.many };
-      outside = record { same = ap (λ (v : World). record v { wake = v.due }) e.outside.same; long = e.outside.long; count = e.outside.count; copies = e.outside.copies };
+      behind = e.behind;
+      links = links-same g w (record w { wake = w.due }) refl refl refl refl refl e.links;
+      outside = record { same = ap (λ (v : World). record v { wake = v.due }) e.outside.same; long = e.outside.long; count = e.outside.count; copies = e.outside.copies; buffers = e.outside.buffers };
     };
     times = λ n m w u at e. subst (λ (t : ℕ). IsAlike g (record w { time = n }) (record u { time = t })) at (record {
-      links = record { channels = e.links.channels; ties = e.links.ties; homes = e.links.homes; many = e.links.many };
-      outside = record { same = ap (λ (v : World). record v { time = n }) e.outside.same; long = e.outside.long; count = e.outside.count; copies = e.outside.copies };
+      behind = e.behind;
+      links = links-same g w (record w { time = n }) refl refl refl refl refl e.links;
+      outside = record { same = ap (λ (v : World). record v { time = n }) e.outside.same; long = e.outside.long; count = e.outside.count; copies = e.outside.copies; buffers = e.outside.buffers };
     });
     before = λ n m w u at e.
         subst (λ (o : Option ℕ). WakesAlike (λ (a b : ℕ). a ≡ b) (wake_before n w) o)

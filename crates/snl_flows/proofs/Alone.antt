@@ -26,7 +26,7 @@ Firm f b k = is_loose f b k ≡ false
 
 -- All is the same in two worlds but words that may differ.
 abbrev pub Still : Ground → Flow → (set : ℕ) → World → World → Type 0
-Still g f set = SameOn g.hidden set (Firm f)
+Still g f set = SameOn g set (Firm f)
 
 -- A number is made, and all is the same but words that may differ; or there is a fault that is left out.
 pub data Makes (g : Ground) (f : Flow) (set : ℕ) (w : World) : Ran ℤ → Type 0 where
@@ -40,14 +40,14 @@ module _ (g : Ground) (f : Flow) (set : ℕ) where
 
   -- nothing happens
   pub made : (z : ℤ) (w : World) → Out w (Gives z w [])
-  made z w = Made z w (same-self g.hidden set (Firm f) w)
+  made z w = Made z w (same-self g set (Firm f) w)
 
   -- one step and then another
   makes-then : (w : World) (r : Ran ℤ) (go : ℤ → World → Ran ℤ) → Out w r → ((z : ℤ) (v : World) → Out v (go z v)) → Out w (then_do r go)
   makes-then w _ go (Made z v still) k = joined (go z v) (k z v)
     where
       joined : (s : Ran ℤ) → Out v s → Out w (also [] s)
-      joined _ (Made y u more) = Made y u (same-joined g.hidden set (Firm f) w v u still more)
+      joined _ (Made y u more) = Made y u (same-joined g set (Firm f) w v u still more)
       joined _ (Failed fault line u left) = Failed fault line u left
   makes-then w _ go (Failed fault line v left) k = Failed fault line v left
 
@@ -113,7 +113,7 @@ module _ (g : Ground) (f : Flow) (set : ℕ) where
   -- ---- variables
 
   -- a word that may differ is no other one
-  apart : (b : Bool) (place : ℕ) → MayDiffer (places_of g.hidden set) f b place → (j : ℕ) → Known g.hidden set (Firm f) b j → j ≡ place → ⊥
+  apart : (b : Bool) (place : ℕ) → MayDiffer (places_of g.hidden set) f b place → (j : ℕ) → Known g set (Firm f) b j → j ≡ place → ⊥
   apart b place may j known is =
       ⊎_elim (λ (seen : IsOpen (places_of g.hidden set) b j). may.hides (subst (IsOpen (places_of g.hidden set) b) is seen))
       (λ (firm : is_loose f b j ≡ false). let p : is_loose f b place ≡ true = may.loose in
@@ -133,11 +133,11 @@ module _ (g : Ground) (f : Flow) (set : ℕ) where
       x : World
       x = with_words_for set b (slice_set (words_for set b w) place z) w
 
-      new : AgreeOn (Known g.hidden set (Firm f) b) (words_for set b w) (slice_set (words_for set b w) place z)
-      new = agree-one (Known g.hidden set (Firm f) b) (words_for set b w) place z (apart b place may)
+      new : AgreeOn (Known g set (Firm f) b) (words_for set b w) (slice_set (words_for set b w) place z)
+      new = agree-one (Known g set (Firm f) b) (words_for set b w) place z (apart b place may)
 
       changed : Still g f set w x
-      changed = words-set g.hidden set (Firm f) b (slice_set (words_for set b w) place z) w new
+      changed = words-set g set (Firm f) b (slice_set (words_for set b w) place z) w new
 
       by : (c : Bool) → Out w (if c then Gives z x [] else Faults DoesNotFit line w [])
       by true = Made z x changed

@@ -1,19 +1,23 @@
 -- That two worlds are the same but for what is hidden in their states is a relation that all steps of a run keep.
-use Rattle.std.proofs.Common.{◌≡◌, ◌∙◌, ◌⊎◌, ◌<◌, inl, ⊎_elim, refl, sym, ap, subst, arith, ℕ, zero, suc, ℤ, pos, Bool, true, false, List, [], ◌∷◌, length, if◌then◌else◌}
+use Rattle.std.proofs.Common.{◌≡◌, ◌∙◌, ◌⊎◌, ◌+◌, ◌<◌, inl, ⊎_elim, refl, sym, ap, subst, arith, ℕ, zero, suc, ℤ, pos, Bool, true, false, List, [], ◌∷◌, Some, length, if◌then◌else◌}
 use Rattle.std.specs.Prelude.{slice_index_or, slice_set}
 use Rattle.snl_meaning.specs.declared.live.Live.{Live}
 use Rattle.snl_meaning.specs.declared.live.Live.TheVariants.{Waiting, Running, Ended}
-use Rattle.snl_meaning.specs.Links.{with_elements}
+use Rattle.snl_meaning.specs.Links.{buffer_of, with_buffer, with_elements}
 use Rattle.snl_meaning.specs.World.{SetMemory, World, copy_of, no_copy, with_copy}
 use Rattle.snl_meaning.proofs.Sizes.{set-many}
 use Rattle.snl_schedule.specs.Turn.{entered_in}
 use Rattle.snl_alike.specs.Runs.{AreAlikeInRuns, NothingMore}
-use Rattle.snl_alike.specs.TwoRuns.{KeepsAlike, rest_of, with_rest}
+use Rattle.snl_alike.specs.TwoRuns.{KeepsAlike, common_of, with_common}
+use Rattle.snl_alike.proofs.Buffers.{marked-copies}
 use Rattle.snl_flows.specs.Flows.{IsAlike}
-use Rattle.snl_flows.specs.Outside.{IsSameByState, IsSameCopy, IsSameOutside, Places, has, hidden_in, places_by, places_for, places_in, places_of, places_with}
-use Rattle.snl_flows.specs.Tables.{Ground, HasLinks}
+use Rattle.snl_flows.specs.Outside.{IsSameByState, IsSameCopy, IsSameOutside, Places, each_always, has, hidden_in, places_by, places_for, places_in, places_of, places_with}
+use Rattle.snl_flows.specs.Tables.{AreBehind, Ground, HasLinks}
 use Rattle.snl_flows.specs.Texts.{SameButValues}
-use Rattle.snl_flows.proofs.Alike.{flow-in-runs, flow-keeps}
+use Rattle.snl_flows.proofs.Alike.{elements-come, flow-in-runs, flow-keeps, flow-stale}
+use Rattle.snl_flows.proofs.Buffers.{KeepsStale, handed-keeps, refreshed-keeps}
+use Rattle.snl_flows.proofs.Links.{links-hidden, links-same, links-shown}
+use Rattle.snl_flows.proofs.Meets.{always-at}
 use Rattle.snl_flows.proofs.Pieces.{CarriesOver, less-open}
 use Rattle.snl_flows.proofs.Worlds.{CopiesAgree, copies-set}
 
@@ -95,20 +99,21 @@ comes-less hidden wide old Running waits set state k here = in-state hidden wide
 comes-less hidden wide old Ended waits set state k here = in-state hidden wide old set state k here
 
 -- other places may be hidden, if all that is the same by these is so by those, or else
-pub relisted : (xs ys : List (List ℕ)) (w u : World) →
+pub relisted : (stale : List ℕ) (xs ys : List (List ℕ)) (w u : World) →
     ((n k : ℕ) → has (places_of ys n) k ≡ false → (has (places_of xs n) k ≡ false) ⊎ (slice_index_or (copy_of n w).words k (pos 0) ≡ slice_index_or (copy_of n u).words k (pos 0))) →
-    IsSameOutside xs w u → IsSameOutside ys w u
-relisted xs ys w u less e = record {
+    IsSameOutside xs stale w u → IsSameOutside ys stale w u
+relisted stale xs ys w u less e = record {
   same = e.same;
   long = e.long;
   count = e.count;
   copies = λ n. let c : IsSameCopy (places_of xs n) (copy_of n w) (copy_of n u) = e.copies n in
       record { state = c.state; entered = c.entered; long = c.long; at = λ k shows. ⊎_elim (λ free. c.at k free) (λ same. same) (less n k shows) };
+  buffers = e.buffers;
 }
 
 -- ---- two worlds
 
-module _ (g : Ground) (hidden : List Places) (wide : IsWide hidden) where
+module _ (g : Ground) (hidden : List Places) (wide : IsWide hidden) (behind : AreBehind (record g { hidden = each_always hidden })) where
   -- what holds for all state sets, where that is hidden which is so in a world
   abbrev pub now : World → Ground
   now w = record g { hidden = hidden_in hidden w }
@@ -116,36 +121,64 @@ module _ (g : Ground) (hidden : List Places) (wide : IsWide hidden) where
   -- Two worlds are the same but for what is hidden in their states, and have the links of the program;
   pub record IsAlikeNow (w u : World) : Type 0 where
     pub links : HasLinks g w
-    pub outside : IsSameByState hidden w u
+    pub outside : IsSameByState hidden g.stale w u
 
   -- and a state set is in a state.
   pub record IsAlikeIn (set state : ℕ) (w u : World) : Type 0 where
     pub alike : IsAlikeNow w u
     pub is_in : (copy_of set w).state ≡ state
 
+  -- what may differ of buffers comes to places that are hidden then
+  pub behind-now : (w : World) → AreBehind (now w)
+  behind-now w = record {
+    hides = λ set link k home t at begins low stale.
+        subst (λ (ps : List ℕ). has ps (home + k) ≡ true) (sym (place-at w.phase hidden w.copies set))
+        (by-wide hidden wide w.phase set (copy_of set w).state (home + k)
+        (subst (λ (ps : List ℕ). has ps (home + k) ≡ true) (always-at hidden set) (behind.hides set link k home t at begins low stale)));
+    queued = behind.queued;
+  }
+
   -- it is so where that is hidden
   pub to-now : (w u : World) → IsAlikeNow w u → IsAlike (now w) w u
-  to-now w u e = record { links = record { channels = e.links.channels; ties = e.links.ties; homes = e.links.homes; many = e.links.many }; outside = e.outside }
+  to-now w u e = record { behind = behind-now w; links = links-hidden g (hidden_in hidden w) w e.links; outside = e.outside }
 
   -- and back, where the same is hidden behind a step
   pub back : (w x y : World) → hidden_in hidden x ≡ hidden_in hidden w → IsAlike (now w) x y → IsAlikeNow x y
   back w x y same e = record {
-    links = record { channels = e.links.channels; ties = e.links.ties; homes = e.links.homes; many = e.links.many };
-    outside = subst (λ (places : List (List ℕ)). IsSameOutside places x y) (sym same) e.outside;
+    links = links-shown g (hidden_in hidden w) x e.links;
+    outside = subst (λ (places : List (List ℕ)). IsSameOutside places g.stale x y) (sym same) e.outside;
   }
 
-  -- words come to a copy
-  comes : (set place : ℕ) (zs : List ℤ) (w : World) → hidden_in hidden (with_elements set place zs w) ≡ hidden_in hidden w
-  comes set place zs w = places-same w.phase hidden _ w.copies (same-states w.copies set _ refl)
+  -- the same values come to a copy
+  now-elements : (set place : ℕ) (zs : List ℤ) (w u : World) → IsAlikeNow w u → IsAlikeNow (with_elements set place zs w) (with_elements set place zs u)
+  now-elements set place zs w u e =
+      back w (with_elements set place zs w) (with_elements set place zs u) (places-same w.phase hidden _ w.copies (same-states w.copies set _ refl))
+      (elements-come (now w) set place zs w u (to-now w u e))
+
+  -- what comes to links comes alike
+  pub now-stale : KeepsStale g IsAlikeNow
+  now-stale = record {
+    links = λ w u e. e.links;
+    same = λ w u e. e.outside.same;
+    changes = λ v w cs xs bs copies shared buffers phase links e.
+        back w v (record v { copies = cs; shared = xs; buffers = bs }) (ap (λ (x : Live). places_with x hidden v.copies) phase ∙ ap (λ (ws : List SetMemory). places_with w.phase hidden ws) copies)
+        ((flow-stale (now w)).changes v w cs xs bs copies shared buffers phase (links-hidden g (hidden_in hidden w) v links) (to-now w (record w { copies = cs; shared = xs; buffers = bs }) e));
+    comes = λ set link home t w u at begins e.
+        back w (with_elements set home (buffer_of t w) w) (with_elements set home (buffer_of t u) u) (places-same w.phase hidden _ w.copies (same-states w.copies set _ refl))
+        ((flow-stale (now w)).comes set link home t w u at begins (to-now w u e));
+    fills = λ t zs w u e. back w (with_buffer t zs w) (with_buffer t zs u) refl ((flow-stale (now w)).fills t zs w u (to-now w u e));
+    queues = λ link t w u at some e. (flow-stale (now w)).queues link t w u at some (to-now w u e);
+  }
 
   -- what steps of a state set keep,
   now-keeps : (set : ℕ) → KeepsAlike set IsAlikeNow (SameButValues g.names)
   now-keeps set = record {
-    rest = λ w u e. ap rest_of e.outside.same;
-    rest_changes = λ r w u phase homes ties channels e.
-        back w (with_rest r w) (with_rest r u) (ap (λ (x : Live). places_with x hidden w.copies) phase)
-        ((flow-keeps (now w) set).rest_changes r w u phase homes ties channels (to-now w u e));
-    comes = λ place zs w u e. back w (with_elements set place zs w) (with_elements set place zs u) (comes set place zs w) ((flow-keeps (now w) set).comes place zs w u (to-now w u e));
+    rest = λ w u e. ap common_of e.outside.same;
+    rest_changes = λ r w u phase homes ties channels queues e.
+        back w (with_common r w) (with_common r u) (ap (λ (x : Live). places_with x hidden w.copies) phase)
+        ((flow-keeps (now w) set).rest_changes r w u phase homes ties channels queues (to-now w u e));
+    takes = λ place link item more w u at holds e. now-elements set place item w u e;
+    hands = λ link t zs w u is none e. handed-keeps g IsAlikeNow now-stale (Some set) link t zs w u e;
     prints = λ name text w u e. (flow-keeps (now w) set).prints name text w u (to-now w u e);
     silent = (flow-keeps g set).silent;
     joined = (flow-keeps g set).joined;
@@ -154,9 +187,13 @@ module _ (g : Ground) (hidden : List Places) (wide : IsWide hidden) where
   -- and while it is in a state
   keeps-in : (set state : ℕ) → KeepsAlike set (IsAlikeIn set state) (SameButValues g.names)
   keeps-in set state = record {
-    rest = λ w u e. ap rest_of e.alike.outside.same;
-    rest_changes = λ r w u phase homes ties channels e. record { alike = (now-keeps set).rest_changes r w u phase homes ties channels e.alike; is_in = e.is_in };
-    comes = λ place zs w u e. record { alike = (now-keeps set).comes place zs w u e.alike; is_in = same-states w.copies set _ refl set ∙ e.is_in };
+    rest = λ w u e. ap common_of e.alike.outside.same;
+    rest_changes = λ r w u phase homes ties channels queues e. record { alike = (now-keeps set).rest_changes r w u phase homes ties channels queues e.alike; is_in = e.is_in };
+    takes = λ place link item more w u at holds e. record { alike = now-elements set place item w u e.alike; is_in = same-states w.copies set _ refl set ∙ e.is_in };
+    hands = λ link t zs w u is none e. record {
+      alike = (now-keeps set).hands link t zs w u is none e.alike;
+      is_in = ap (λ (cs : List SetMemory). (slice_index_or cs set no_copy).state) (marked-copies (Some set) link t (with_buffer t zs w)) ∙ e.is_in;
+    };
     prints = λ name text w u e. (now-keeps set).prints name text w u e.alike;
     silent = (flow-keeps g set).silent;
     joined = (flow-keeps g set).joined;
@@ -230,12 +267,13 @@ module _ (g : Ground) (hidden : List Places) (wide : IsWide hidden) where
         (λ n. record { state = (o.copies n).state; entered = (o.copies n).entered; words = record { long = (o.copies n).long; at = (o.copies n).at } }) in
         record {
           alike = record {
-            links = record { channels = e.alike.links.channels; ties = e.alike.links.ties; homes = e.alike.links.homes; many = set-many w.copies set first ∙ e.alike.links.many };
+            links = links-same g w (entered_in set to is_timed w) refl refl refl refl (set-many w.copies set first) e.alike.links;
             outside = record {
               same = ap (λ (v : World). with_copy set second v) o.same;
               long = o.long;
               count = set-many w.copies set first ∙ o.count ∙ sym (set-many u.copies set second);
               copies = λ n. let c : CopiesAgree (New n) _ _ = both n in record { state = c.state; entered = c.entered; long = c.words.long; at = c.words.at };
+              buffers = o.buffers;
             };
           };
           is_in = is-to;
@@ -246,12 +284,12 @@ module _ (g : Ground) (hidden : List Places) (wide : IsWide hidden) where
   -- it begins, or ends
   becomes : (phase : Live) → (phase ≡ Waiting → ⊥) → (w u : World) → IsAlikeNow w u → IsAlikeNow (record w { phase = phase }) (record u { phase = phase })
   becomes phase waits w u e = record {
-    links = record { channels = e.links.channels; ties = e.links.ties; homes = e.links.homes; many = e.links.many };
-    outside = relisted (hidden_in hidden w) (places_with phase hidden w.copies) (record w { phase = phase }) (record u { phase = phase })
+    links = links-same g w (record w { phase = phase }) refl refl refl refl refl e.links;
+    outside = relisted g.stale (hidden_in hidden w) (places_with phase hidden w.copies) (record w { phase = phase }) (record u { phase = phase })
         (λ n k shows. inl (subst (λ (ps : List ℕ). has ps k ≡ false) (sym (place-at w.phase hidden w.copies n))
         (less-open (places_by phase (places_for hidden n) (copy_of n w).state) (places_by w.phase (places_for hidden n) (copy_of n w).state) k
         (comes-less hidden wide w.phase phase waits n (copy_of n w).state k) (subst (λ (ps : List ℕ). has ps k ≡ false) (place-at phase hidden w.copies n) shows))))
-        (record { same = ap (λ (v : World). record v { phase = phase }) e.outside.same; long = e.outside.long; count = e.outside.count; copies = e.outside.copies });
+        (record { same = ap (λ (v : World). record v { phase = phase }) e.outside.same; long = e.outside.long; count = e.outside.count; copies = e.outside.copies; buffers = e.outside.buffers });
   }
 
   -- ---- runs
@@ -274,6 +312,7 @@ module _ (g : Ground) (hidden : List Places) (wide : IsWide hidden) where
       states = λ set low w u e. (e.outside.copies set).state;
       inside = λ set low w u e. record { alike = e; is_in = refl };
       outside = λ set state w u e. e.alike;
+      refreshes = λ set low w u e. refreshed-keeps g IsAlikeNow now-stale set w u e;
       enters = λ set from state is_timed low either w u e l. entered set from state is_timed w u (copy-there set w u low e.alike) e l;
       becomes = becomes;
       opens = λ w u e. back w _ _ refl ((steps w).opens w u (to-now w u e));

@@ -43,7 +43,7 @@ module _ (g : Ground) (f : Flow) (set : ℕ) where
       let never : true ≡ false = sym loose ∙ sym same ∙ firm in absurd (cc)
 
   -- what is known does not name it
-  apart : (v : Variable) (line : ℕ) (K : Bool → ℕ → Type 0) → AreFirm K → MayGetOther g set f v 0 line → (j : ℕ) → Known g.hidden set K v.is_shared j → j ≡ v.place + 0 → ⊥
+  apart : (v : Variable) (line : ℕ) (K : Bool → ℕ → Type 0) → AreFirm K → MayGetOther g set f v 0 line → (j : ℕ) → Known g set K v.is_shared j → j ≡ v.place + 0 → ⊥
   apart v line K firm other j known is =
       ⊎_elim (λ (seen : IsOpen (places_of g.hidden set) v.is_shared j). other.0.hides (subst (IsOpen (places_of g.hidden set) v.is_shared) is seen))
       (λ k. loose-not v line other v.is_shared j (refl, is) (firm v.is_shared j k)) known
@@ -54,7 +54,7 @@ module _ (g : Ground) (f : Flow) (set : ℕ) where
 
   -- one parameter, and the rest of them
   module _ (p : Variable) (ps : List Variable) (line n : ℕ) (x y : ℤ) (xs ys : List ℤ) (o : Operand) (K : Bool → ℕ → Type 0) (w u : World) (firm : AreFirm K) (holds : HoldsOf o x y)
-      (e : SameOn g.hidden set K w u) (rest : (L : Bool → ℕ → Type 0) (v z : World) → AreFirm L → SameOn g.hidden set L v z → Bind ps line n xs ys L v z) where
+      (e : SameOn g set K w u) (rest : (L : Bool → ℕ → Type 0) (v z : World) → AreFirm L → SameOn g set L v z → Bind ps line n xs ys L v z) where
     -- the word of the parameter, if it is firm
     abbrev Word : Bool → ℕ → Type 0
     Word b k = IsElement p 0 b k × Firm f b k
@@ -66,10 +66,10 @@ module _ (g : Ground) (f : Flow) (set : ℕ) where
         (λ _ v. bound set ps line xs v) (λ _ v. bound set ps line ys v) (stored-to g set K o p line (pos 0) x y w u is holds e)
         (λ _ _ v z more. less-to g {A = Unit {0}} (Entered g set (With (With K Word) (Bound ps n))) (Entered g set (With K (Bound (p ∷ ps) (suc n)))) (bound set ps line xs v)
         (bound set ps line ys z)
-        (λ _ _ a c all. same-less g.hidden set (With (With K Word) (Bound ps n)) (With K (Bound (p ∷ ps) (suc n))) a c
+        (λ _ _ a c all. same-less g set (With (With K Word) (Bound ps n)) (With K (Bound (p ∷ ps) (suc n))) a c
         (λ b j known. ⊎_elim (λ k. inl (inl k)) (λ (q : Bound (p ∷ ps) (suc n) b j). ⊎_elim (λ here. inl (inr (here, q.1))) (λ others. inr (others, q.1)) q.0) known) all)
         (rest (With K Word) v z (λ b k known. ⊎_elim (λ q. firm b k q) (λ (q : Word b k). q.1) known)
-        (same-less g.hidden set (With K (IsElement p 0)) (With K Word) v z (λ b j known. ⊎_elim (λ q. inl q) (λ (q : Word b j). inr q.0) known) more.1)))
+        (same-less g set (With K (IsElement p 0)) (With K Word) v z (λ b j known. ⊎_elim (λ q. inl q) (λ (q : Word b j). inr q.0) known) more.1)))
 
     -- one that may be another one
     one-other : MayGetOther g set f p 0 line → Bind (p ∷ ps) line (suc n) (x ∷ xs) (y ∷ ys) K w u
@@ -78,19 +78,19 @@ module _ (g : Ground) (f : Flow) (set : ℕ) where
         (λ _ v. bound set ps line xs v) (λ _ v. bound set ps line ys v)
         (stored-other g set K o p line (pos 0) x y w u holds may.1 (apart p line K firm may) e)
         (λ _ _ v z more. less-to g {A = Unit {0}} (Entered g set (With K (Bound ps n))) (Entered g set (With K (Bound (p ∷ ps) (suc n)))) (bound set ps line xs v) (bound set ps line ys z)
-        (λ _ _ a c all. same-less g.hidden set (With K (Bound ps n)) (With K (Bound (p ∷ ps) (suc n))) a c
+        (λ _ _ a c all. same-less g set (With K (Bound ps n)) (With K (Bound (p ∷ ps) (suc n))) a c
         (λ b j known. ⊎_elim (λ k. inl k) (λ (q : Bound (p ∷ ps) (suc n) b j). ⊎_elim (λ here. absurd (loose-not p line may b j here q.1)) (λ others. inr (others, q.1)) q.0) known) all)
         (rest K v z firm more.1))
 
   -- values into parameters
   takes-to : (ps : List Variable) (line n : ℕ) (s t : List ℤ) (os : List Operand) (K : Bool → ℕ → Type 0) (w u : World) → AreFirm K → AreTaken g set f ps n os line →
-      n ≤ length s → n ≤ length t → HoldOf os s t → SameOn g.hidden set K w u → Bind ps line n (reverse (take n s)) (reverse (take n t)) K w u
+      n ≤ length s → n ≤ length t → HoldOf os s t → SameOn g set K w u → Bind ps line n (reverse (take n s)) (reverse (take n t)) K w u
   takes-to [] line n s t os K w u firm taken low near h e =
       lead g {A = Unit {0}} (Entered g set (With K (Bound [] n))) tt tt w u
-      (same-less g.hidden set K (With K (Bound [] n)) w u (λ b j known. ⊎_elim (λ p. p) (λ (q : Bound [] n b j). absurd q.0) known) e)
+      (same-less g set K (With K (Bound [] n)) w u (λ b j known. ⊎_elim (λ p. p) (λ (q : Bound [] n b j). absurd q.0) known) e)
   takes-to (p ∷ ps) line zero s t os K w u firm taken low near h e =
       lead g {A = Unit {0}} (Entered g set (With K (Bound (p ∷ ps) 0))) tt tt w u
-      (same-less g.hidden set K (With K (Bound (p ∷ ps) 0)) w u (λ b j known. ⊎_elim (λ x. x) (λ (q : Bound (p ∷ ps) 0 b j). absurd q.0) known) e)
+      (same-less g set K (With K (Bound (p ∷ ps) 0)) w u (λ b j known. ⊎_elim (λ x. x) (λ (q : Bound (p ∷ ps) 0 b j). absurd q.0) known) e)
   takes-to (p ∷ ps) line (suc n) s t os K w u firm taken low near h e =
       let x = get_or s n (pos 0) in
       let y = get_or t n (pos 0) in
@@ -98,7 +98,7 @@ module _ (g : Ground) (f : Flow) (set : ℕ) where
       let ys = reverse (take n t) in
       let o = top_of (under n os) in
       let holds : HoldsOf o x y = holds-at n s t os (omega (arith, low)) h in
-      let rest : (L : Bool → ℕ → Type 0) (v z : World) → AreFirm L → SameOn g.hidden set L v z → Bind ps line n xs ys L v z =
+      let rest : (L : Bool → ℕ → Type 0) (v z : World) → AreFirm L → SameOn g set L v z → Bind ps line n xs ys L v z =
       λ L v z firmly on. takes-to ps line n s t os L v z firmly taken.1 (omega (arith, low)) (omega (arith, near)) h on in
       subst (λ (zs : List ℤ). Bind (p ∷ ps) line (suc n) zs (reverse (take (suc n) t)) K w u) (sym (last-first n s (omega (arith, low))))
       (subst (λ (zs : List ℤ). Bind (p ∷ ps) line (suc n) (x ∷ xs) zs K w u) (sym (last-first n t (omega (arith, near))))
@@ -106,7 +106,7 @@ module _ (g : Ground) (f : Flow) (set : ℕ) where
 
   -- how a call begins
   pub calls-to : (ps : List Variable) (line n : ℕ) (s t : List ℤ) (os : List Operand) (K : Bool → ℕ → Type 0) (w u : World) → AreFirm K → AreTaken g set f ps n os line →
-      n ≤ length s → n ≤ length t → HoldOf os s t → SameOn g.hidden set K w u →
+      n ≤ length s → n ≤ length t → HoldOf os s t → SameOn g set K w u →
       AlikeTo {A = Unit {0}} g (Entered g set (With K (Bound ps n))) (called_with set ps line (reverse (take n s)) w) (called_with set ps line (reverse (take n t)) u)
   calls-to ps line n s t os K w u firm taken low near h e =
       then-to g {A = Unit {0}} {B = Unit {0}} (SameKept g set K) (Entered g set (With K (Bound ps n))) (spent line w) (spent line u) (λ _ v. bound set ps line (reverse (take n s)) v)

@@ -1,5 +1,5 @@
 -- Where the check of an instruction says so, its table is right of it.
-use Rattle.std.proofs.Common.{◌≡◌, ◌⊎◌, ◌+◌, ◌-◌, ◌<◌, inl, inr, ⊎_elim, refl, subst, arith, ℕ, zero, suc, Bool, true, false, List, [], ◌∷◌, Option, None, Some}
+use Rattle.std.proofs.Common.{◌≡◌, ◌∙◌, ◌⊎◌, ◌+◌, ◌-◌, ◌<◌, inl, inr, ⊎_elim, refl, sym, ap, subst, arith, ℕ, zero, suc, Bool, true, false, List, [], ◌∷◌, Option, None, Some}
 use Rattle.std.specs.Prelude.{◌==◌, ◌&&◌, ◌||◌, not, slice_get, slice_index_or}
 use Rattle.std.proofs.lemmas.Bool.{and_parts, or_cases, eqb-true, false≢true}
 use Rattle.snl_meaning.specs.declared.instrs.Instr.{Instr}
@@ -9,11 +9,13 @@ use Rattle.snl_meaning.specs.declared.ties.Tied.{Tied}
 use Rattle.snl_meaning.specs.Names.{format_text}
 use Rattle.snl_meaning.specs.Run.{Entry}
 use Rattle.snl_meaning.specs.Words.{element_place}
+use Rattle.snl_names.specs.declared.builtins.Query.{Query}
+use Rattle.snl_names.specs.declared.builtins.Query.TheVariants.{EfClear, EfSet, EfTest, EfTestAndClear, PvChannelCount, PvConnectCount, PvConnected, PvFlushQ, PvGet, PvGetQ, PvPutComplete}
 use Rattle.snl_text.specs.declared.kinds.Kind.{Kind}
-use Rattle.snl_flows.specs.Checks.{are_all_same, are_bound, are_kept, are_first_same, are_taken, takes, is_no_more, are_no_more, are_put, are_put_by, are_same_at, begins, is_bound, is_fine_at, is_named, is_printed, is_put, is_put_at, is_put_by, is_put_of, is_read, is_same_at, is_same_in, known_at, leads, leads_after, may_get_other, may_overflow, may_overflow_by, may_overflow_over, prefix_may_overflow}
-use Rattle.snl_flows.specs.Fine.{AreTaken, Takes, Begins, IsAnyElement, IsBound, IsFineAt, IsPrinted, IsPut, IsPutBy, LeadsTo, MayBecomeOther, settled_of}
-use Rattle.snl_flows.specs.Outside.{has}
-use Rattle.snl_flows.specs.Tables.{Operand, Another, Same, Within, CanBe, IsSameIn, top_of, below, under, Flow, Ground, facts_at, said_at}
+use Rattle.snl_flows.specs.Checks.{are_all_same, are_bound, are_got, are_got_by, are_got_within, are_kept, are_first_same, are_taken, takes, is_no_more, are_no_more, are_put, are_put_by, are_same_at, begins, hidden_here, is_bound, is_fine_at, is_got, is_got_at, is_got_by, is_got_from, is_got_of, is_named, is_printed, is_put, is_put_at, is_put_by, is_put_of, is_read, is_same_at, is_same_in, known_at, leads, leads_after, may_get_other, may_overflow, may_overflow_by, may_overflow_over, prefix_may_overflow}
+use Rattle.snl_flows.specs.Fine.{AreTaken, Takes, Begins, IsAnyElement, IsBound, IsFineAt, IsGot, IsPrinted, IsPut, IsPutBy, LeadsTo, MayBecomeOther, settled_of}
+use Rattle.snl_flows.specs.Outside.{has, places_of}
+use Rattle.snl_flows.specs.Tables.{Operand, Another, Same, Within, CanBe, IsSameIn, top_of, below, under, Flow, Ground, MayDiffer, facts_at, said_at}
 use Rattle.snl_flows.proofs.Checks.{all-no-more, all-same, first-same, first-same-at, gets-other, kept-by, leads-more, leads-one, leads-to, named-by, no-more, overflows, overflows-by, overflows-over, prefix-overflows, read-by, same-in, words-behind, words-same}
 
 module _ (g : Ground) (set : ℕ) (f : Flow) where
@@ -58,6 +60,101 @@ module _ (g : Ground) (set : ℕ) (f : Flow) where
     where
       from-none : (k : ℕ) → 0 + k ≡ k
       from-none k = omega arith
+
+  -- ---- what is got
+
+  -- a word that may get what is not the same
+  differs : (place : ℕ) → (has f.loose place && has (hidden_here g set f) place) ≡ true → MayDiffer (places_of g.hidden set) f false place
+  differs place said =
+      let both = and_parts (has f.loose place) (has (hidden_here g set f) place) said in
+      record { loose = both.0; hides = λ (seen : has (places_of g.hidden set) place ≡ false). false≢true (sym seen ∙ both.1) }
+
+  -- so many words, from places on
+  got-from : (count place from : ℕ) → is_got_from g set f place from count ≡ true → (k : ℕ) → k < count → has g.stale (from + k) ≡ true → MayDiffer (places_of g.hidden set) f false (place + k)
+  got-from zero place from said k low stale = absurd (omega (arith, low))
+  got-from (suc count) place from said zero low stale =
+      subst (MayDiffer (places_of g.hidden set) f false) (first place)
+      (differs place (⊎_elim (λ (fresh : not (has g.stale from) ≡ true). absurd (never (has g.stale from) fresh (ap (has g.stale) (first from) ∙ stale)))
+      (λ (may : (has f.loose place && has (hidden_here g set f) place) ≡ true). may)
+      (or_cases (not (has g.stale from)) (has f.loose place && has (hidden_here g set f) place)
+      (and_parts (not (has g.stale from) || (has f.loose place && has (hidden_here g set f) place)) (is_got_from g set f (suc place) (suc from) count) said).0)))
+    where
+      first : (n : ℕ) → n ≡ n + 0
+      first n = omega arith
+
+      never : (b : Bool) → not b ≡ true → b ≡ true → ⊥
+      never true fresh is = false≢true fresh
+      never false fresh is = false≢true is
+  got-from (suc count) place from said (suc k) low stale =
+      subst (MayDiffer (places_of g.hidden set) f false) (next place k)
+      (got-from count (suc place) (suc from)
+      (and_parts (not (has g.stale from) || (has f.loose place && has (hidden_here g set f) place)) (is_got_from g set f (suc place) (suc from) count) said).1
+      k (omega (arith, low)) (ap (has g.stale) (next from k) ∙ stale))
+    where
+      next : (n k : ℕ) → suc n + k ≡ n + suc k
+      next n k = omega arith
+
+  -- of a place
+  got-at : (place : ℕ) → is_got g set f place ≡ true → IsGot g set f PvGet place
+  got-at place said link k t found tied low stale =
+      let one : is_got_of g set f place (Some link) ≡ true = subst (λ (o : Option ℕ). is_got_of g set f place o ≡ true) found said in
+      let two : is_got_at g set f place (Some t) ≡ true = subst (λ (o : Option Tied). is_got_at g set f place o ≡ true) tied one in
+      got-from t.count place t.from two k low stale
+
+  -- of so many elements
+  gots-at : (v : Variable) (many element : ℕ) → are_got g set f v element many ≡ true → (k : ℕ) → k < many → IsGot g set f PvGet (element_place v (element + k))
+  gots-at v zero element said k low = absurd (omega (arith, low))
+  gots-at v (suc many) element said zero low =
+      subst (λ (n : ℕ). IsGot g set f PvGet (element_place v n)) (first element)
+      (got-at (element_place v element) (and_parts (is_got g set f (element_place v element)) (are_got g set f v (suc element) many) said).0)
+    where
+      first : (n : ℕ) → n ≡ n + 0
+      first n = omega arith
+  gots-at v (suc many) element said (suc k) low =
+      subst (λ (n : ℕ). IsGot g set f PvGet (element_place v n)) (next element k)
+      (gots-at v many (suc element) (and_parts (is_got g set f (element_place v element)) (are_got g set f v (suc element) many) said).1 k (omega (arith, low)))
+    where
+      next : (n k : ℕ) → suc n + k ≡ n + suc k
+      next n k = omega arith
+
+  -- of each element that a subscript can name
+  gots-within : (v : Variable) (o : Operand) (stale : List ℕ) → g.stale ≡ stale → are_got_within g set f v o stale ≡ true → (k : ℕ) → CanBe o k → IsGot g set f PvGet (element_place v k)
+  gots-within v o [] none said k can =
+      λ link j t found tied low stale. absurd (false≢true (ap (λ (places : List ℕ). has places (t.from + j)) (sym none) ∙ stale))
+  gots-within v Another (x ∷ stale) some said k can = absurd (false≢true said)
+  gots-within v Same (x ∷ stale) some said k can = absurd (false≢true said)
+  gots-within v (Within size) (x ∷ stale) some said k low = subst (λ (n : ℕ). IsGot g set f PvGet (element_place v n)) (from-none k) (gots-at v size 0 said k low)
+    where
+      from-none : (k : ℕ) → 0 + k ≡ k
+      from-none k = omega arith
+
+  -- by what is asked for
+  got-by : (query : Query) (v : Variable) → is_got_by g set f query v ≡ true → IsGot g set f query v.place
+  got-by PvGet v said = got-at v.place said
+  got-by PvGetQ v said = tt
+  got-by PvFlushQ v said = tt
+  got-by PvConnected v said = tt
+  got-by PvPutComplete v said = tt
+  got-by PvChannelCount v said = tt
+  got-by PvConnectCount v said = tt
+  got-by EfClear v said = tt
+  got-by EfSet v said = tt
+  got-by EfTest v said = tt
+  got-by EfTestAndClear v said = tt
+
+  -- of elements
+  gots-by : (query : Query) (v : Variable) (o : Operand) → are_got_by g set f query v o ≡ true → (k : ℕ) → CanBe o k → IsGot g set f query (element_place v k)
+  gots-by PvGet v o said k can = gots-within v o g.stale refl said k can
+  gots-by PvGetQ v o said k can = tt
+  gots-by PvFlushQ v o said k can = tt
+  gots-by PvConnected v o said k can = tt
+  gots-by PvPutComplete v o said k can = tt
+  gots-by PvChannelCount v o said k can = tt
+  gots-by PvConnectCount v o said k can = tt
+  gots-by EfClear v o said k can = tt
+  gots-by EfSet v o said k can = tt
+  gots-by EfTest v o said k can = tt
+  gots-by EfTestAndClear v o said k can = tt
 
   -- ---- prints
 
@@ -216,8 +313,11 @@ module _ (g : Ground) (set : ℕ) (f : Flow) where
         let parts = and_parts (are_put_by g set f at v (top_of os)) (leads g set f at (at + 1) (Same ∷ below os)) said in
         let puts = puts-by at v (top_of os) parts.0 in (puts.0, puts.1, leads-to g set f at (at + 1) (Same ∷ below os) parts.1)
     fine-at (Ask query number) said = leads-to g set f at (at + 1) (Same ∷ os) said
-    fine-at (AskLink query v) said = leads-to g set f at (at + 1) (Same ∷ os) said
-    fine-at (AskElement query v) said = with-test (is_same_in (top_of os)) (at + 1) (Same ∷ below os) (same-in (top_of os)) said
+    fine-at (AskLink query v) said = with-test (is_got_by g set f query v) (at + 1) (Same ∷ os) (got-by query v) said
+    fine-at (AskElement query v) said =
+        let two = and_parts (is_same_in (top_of os) && are_got_by g set f query v (top_of os)) (leads g set f at (at + 1) (Same ∷ below os)) said in
+        let one = and_parts (is_same_in (top_of os)) (are_got_by g set f query v (top_of os)) two.0 in
+        (same-in (top_of os) one.0, gots-by query v (top_of os) one.1, leads-to g set f at (at + 1) (Same ∷ below os) two.1)
     fine-at (Clear v) said = leads-more g set f at (at + 1) os v v.place v.size (IsAnyElement v) said (λ b k shared low high. (shared, low, high))
     fine-at (Assign v element line) said =
         either (is_same_in (top_of os) && leads_after g set f at (at + 1) (below os) v (v.place + element) 1)

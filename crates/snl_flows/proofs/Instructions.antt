@@ -1,12 +1,14 @@
 -- What each instruction does in two runs, where a table is right at its address.
-use Rattle.std.proofs.Common.{◌≡◌, ◌+◌, ◌-◌, ⊎_elim, refl, sym, ap, subst, ℕ, ℤ, pos, Bool, true, List, [], ◌∷◌, reverse, take, if◌then◌else◌}
-use Rattle.std.specs.Prelude.{◌&&◌, int_le, slice_get}
+use Rattle.std.proofs.Common.{◌≡◌, ◌∙◌, ◌+◌, ◌-◌, ⊎_elim, refl, sym, ap, subst, ℕ, ℤ, pos, Bool, true, false, List, [], ◌∷◌, Option, reverse, take, if◌then◌else◌}
+use Rattle.std.specs.Prelude.{◌&&◌, int_le, slice_get, slice_index_or}
 use Rattle.snl_arithmetic.specs.Arithmetic.{computed, computed_prefix, is_zero}
 use Rattle.snl_text.specs.declared.kinds.Kind.{Kind}
 use Rattle.snl_meaning.specs.declared.instrs.Instr.{Instr}
 use Rattle.snl_meaning.specs.declared.instrs.Instr.TheVariants.{Push, Load, Check, Get, Peek, Store, StoreAt, Adjust, Increment, AdjustAt, Apply, ApplyNumber, ApplyPrefix, Settle, Drop, Jump, JumpIfZero, Tick, Print, Wait, Put, PutAt, Ask, AskLink, AskElement, Clear, Assign, Call, Fit, Return, Leave, End}
 use Rattle.snl_meaning.specs.declared.instrs.Variable.{Variable}
+use Rattle.snl_meaning.specs.declared.ties.Tied.{Tied}
 use Rattle.snl_meaning.specs.Asking.{asked, ask_element}
+use Rattle.snl_meaning.specs.Links.{buffer_of, link_from}
 use Rattle.snl_meaning.specs.Names.{format_text}
 use Rattle.snl_meaning.specs.Printing.{printed_line}
 use Rattle.snl_meaning.specs.Ran.{Ran, Gives, then_do}
@@ -14,13 +16,17 @@ use Rattle.snl_meaning.specs.declared.faults.Fault.TheVariants.{DoesNotFit}
 use Rattle.snl_meaning.specs.Run.{Entry, PieceContext, GoesTo, EndsWith, goes, goes_with, on_top, pushes, done_by}
 use Rattle.snl_meaning.specs.Words.{adjusted, cleared, element_place, fitted, gives, natural, operated, operated_prefix, printed, put_element, read, settled, spent, subscript, waited}
 use Rattle.snl_meaning.specs.World.{World}
+use Rattle.snl_names.specs.declared.builtins.Query.{Query}
+use Rattle.snl_names.specs.declared.builtins.Query.TheVariants.{EfClear, EfSet, EfTest, EfTestAndClear, PvChannelCount, PvConnectCount, PvConnected, PvFlushQ, PvGet, PvGetQ, PvPutComplete}
+use Rattle.snl_alike.specs.TwoRuns.{FetchesBy}
 use Rattle.snl_alike.proofs.Linked.{agrees-printed, agrees-asked, agrees-ask_element}
-use Rattle.snl_flows.specs.Fine.{AreRead, Begins, IsAnyElement, IsFineAt, IsFirstSame, IsPrinted, LeadsTo, MayBecomeOther, MayOverflowBy, MayOverflowOver, PrefixMayOverflow, Takes, settled_of}
+use Rattle.snl_flows.specs.Fine.{AreRead, Begins, IsAnyElement, IsFineAt, IsFirstSame, IsGot, IsPrinted, LeadsTo, MayBecomeOther, MayOverflowBy, MayOverflowOver, PrefixMayOverflow, Takes, settled_of}
 use Rattle.snl_flows.specs.LeftOut.{IsLeftOut}
 use Rattle.snl_flows.specs.Outside.{has}
 use Rattle.snl_flows.specs.Tables.{Operand, Another, Same, Within, IsSameIn, top_of, below, Flow, Ground, HasLinks}
 use Rattle.snl_flows.specs.Texts.{IsNamed, SameButValues}
-use Rattle.snl_flows.proofs.Kept.{settled-to, waited-to, SameKept}
+use Rattle.snl_flows.proofs.Kept.{KeptLinked, SameKept, keeps-linked, linked, settled-to, waited-to}
+use Rattle.snl_flows.proofs.Links.{links-elements}
 use Rattle.snl_flows.proofs.Operands.{HoldsOf, HoldOf, all-same, can-be, first-same, same-of}
 use Rattle.snl_flows.proofs.Operators.{fitted-other, operated-other-by, operated-other-over, outcome-to, prefix-other}
 use Rattle.snl_flows.proofs.Outcomes.{AlikeTo, BothLead, lead, stop, test-to, then-to}
@@ -28,7 +34,7 @@ use Rattle.snl_flows.proofs.Puts.{put-to, spent-to}
 use Rattle.snl_flows.proofs.Steps.{K, ops, At, Next, Holds, AreBack, IsOfGround, BothEnd, BothLeave, led, led-after, on, pushed, topped, two-topped, twice, free, kept, known, apart, stores, assigns, stores-at, checked, jumped, taken, returned, called-on}
 use Rattle.snl_flows.proofs.Texts.{one-print}
 use Rattle.snl_flows.proofs.Variables.{With, adjusted-to-other, adjusted-to-same, cleared-to, read-other, read-to}
-use Rattle.snl_flows.proofs.Worlds.{SameOn, same-outside}
+use Rattle.snl_flows.proofs.Worlds.{SameOn, buffer-comes, same-outside}
 
 module _ (g : Ground) (f : Flow) (c : PieceContext) where
   -- an instruction does the same in both runs, but for what the table says
@@ -93,7 +99,7 @@ module _ (g : Ground) (f : Flow) (c : PieceContext) where
   -- a variable that becomes 0
   clears : (at : ℕ) (v : Variable) (s t : List ℤ) (w u : World) → Does (Clear v) at s t w u
   clears at v s t w u fine h e =
-      then-to g {A = Unit {0}} (λ _ _. SameOn g.hidden c.set (With (K g f c at) (IsAnyElement v))) (Next g f c) (cleared c.set v w) (cleared c.set v u) (goes (at + 1) s) (goes (at + 1) t)
+      then-to g {A = Unit {0}} (λ _ _. SameOn g c.set (With (K g f c at) (IsAnyElement v))) (Next g f c) (cleared c.set v w) (cleared c.set v u) (goes (at + 1) s) (goes (at + 1) t)
       (cleared-to g c.set (K g f c at) v w u e) (λ _ _ p q more. led-after g f c at (at + 1) (ops g f c at) (IsAnyElement v) s t p q fine h more)
 
   -- ---- operators
@@ -177,7 +183,7 @@ module _ (g : Ground) (f : Flow) (c : PieceContext) where
           (λ (same : IsSameIn o).
           subst (λ (z : ℤ). AlikeTo g (Holds g f c at o) (fitted least greatest line x w) (fitted least greatest line z u)) (same-of o x y same top)
           (test-to g (Holds g f c at o) (int_le least x && int_le x greatest) _ _ _ _ (lead g (Holds g f c at o) x x w u (subst (HoldsOf o x) (sym (same-of o x y same top)) top, e))
-          (stop g (Holds g f c at o) DoesNotFit line w u (same-outside g.hidden c.set (K g f c at) w u e))))
+          (stop g (Holds g f c at o) DoesNotFit line w u (same-outside g c.set (K g f c at) w u e))))
           (λ (left : has g.lines line ≡ true). fitted-other g c.set (K g f c at) o least greatest line x y w u left top e) fine.0
 
   -- ---- puts
@@ -215,13 +221,43 @@ module _ (g : Ground) (f : Flow) (c : PieceContext) where
       text : List ℕ
       text = format_text c.formats format
 
+  -- ---- what is asked
+
+  -- the buffer of a link comes to words that may get what is not the same
+  gets : (at place : ℕ) (query : Query) → IsGot g c.set f query place → FetchesBy query c.set place (KeptLinked g c.set (K g f c at))
+  gets at place PvGet got = λ link t w u found tied e. record {
+    links = links-elements g c.set place (buffer_of t w) w e.links;
+    kept = buffer-comes g c.set (K g f c at) place t w u
+        (λ k low stale known. apart g f c at false (place + k)
+        (got link k t (ap (λ (homes : List (List (Option ℕ))). link_from 0 (slice_index_or homes c.set []) place) (sym e.links.homes) ∙ found)
+        (ap (λ (ties : List Tied). slice_get ties link) (sym e.links.ties) ∙ tied) low stale) (place + k) known refl) e.kept;
+  }
+  gets at place PvGetQ got = tt
+  gets at place PvFlushQ got = tt
+  gets at place PvConnected got = tt
+  gets at place PvPutComplete got = tt
+  gets at place PvChannelCount got = tt
+  gets at place PvConnectCount got = tt
+  gets at place EfClear got = tt
+  gets at place EfSet got = tt
+  gets at place EfTest got = tt
+  gets at place EfTestAndClear got = tt
+
+  -- what is asked of an element
+  asks : (at : ℕ) (query : Query) (v : Variable) (x : ℤ) (w u : World) → HasLinks g w → IsGot g c.set f query (element_place v (natural x)) → At g f c at w u →
+      AlikeTo g (Holds g f c at Same) (ask_element query c.set v x w) (ask_element query c.set v x u)
+  asks at query v x w u links got e =
+      linked g c.set (K g f c at) (ask_element query c.set v x)
+      (agrees-ask_element (IsLeftOut g.lines) c.set (KeptLinked g c.set (K g f c at)) (SameButValues g.names) (keeps-linked g c.set (K g f c at)) query v x
+      (gets at (element_place v (natural x)) query got)) w u links e
+
   -- ---- all of them
 
   -- no step more
   ends : (at : ℕ) (s t : List ℤ) (w u : World) → Does End at s t w u
   ends at s t w u fine h e =
       subst (λ (x : List ℤ). AlikeTo g (Next g f c) (Gives (EndsWith s) w []) (Gives (EndsWith x) u [])) (all-same s t (ops g f c at) fine.0 h)
-      (lead g (Next g f c) _ _ w u (BothEnd s w u (same-outside g.hidden c.set (K g f c at) w u e) (kept g f c at f.ends w u fine.1 e)))
+      (lead g (Next g f c) _ _ w u (BothEnd s w u (same-outside g c.set (K g f c at) w u e) (kept g f c at f.ends w u fine.1 e)))
 
   -- a call
   calls-on : (at function n line : ℕ) (s t : List ℤ) (w u : World) → AreBack f c.returns → IsOfGround g c → Does (Call function n line) at s t w u
@@ -287,16 +323,20 @@ module _ (g : Ground) (f : Flow) (c : PieceContext) where
       pushed g f c at Same (ops g f c at) s t w u (asked query number w) (asked query number u) fine h e
       (free g f c at (asked query number) (λ keep. agrees-asked (IsLeftOut g.lines) c.set (At g f c at) (SameButValues g.names) keep query number) w u e)
   done-alike (AskLink query v) at s t w u links backs same = λ fine h e.
-      pushed g f c at Same (ops g f c at) s t w u (ask_element query c.set v (pos 0) w) (ask_element query c.set v (pos 0) u) fine h e
-      (free g f c at (ask_element query c.set v (pos 0)) (λ keep. agrees-ask_element (IsLeftOut g.lines) c.set (At g f c at) (SameButValues g.names) keep query v (pos 0)) w u e)
+      pushed g f c at Same (ops g f c at) s t w u (ask_element query c.set v (pos 0) w) (ask_element query c.set v (pos 0) u) fine.1 h e (asks at query v (pos 0) w u links fine.0 e)
   done-alike (AskElement query v) at s t w u links backs same = λ fine h e.
-      same-word at Same (ask_element query c.set v) s t w u fine.0 fine.1
-      (λ x. free g f c at (ask_element query c.set v x) (λ keep. agrees-ask_element (IsLeftOut g.lines) c.set (At g f c at) (SameButValues g.names) keep query v x) w u e) h e
+      topped g f c at (ops g f c at) s t
+      (λ z more. then_do (ask_element query c.set v z w) (goes_with (at + 1) more))
+      (λ z more. then_do (ask_element query c.set v z u) (goes_with (at + 1) more)) w u h e
+      (λ x y s' t' top rest.
+      on g f c at (at + 1) Same (below (ops g f c at)) s' t' (ask_element query c.set v x w) (ask_element query c.set v y u) fine.2 rest
+      (twice g f c (Holds g f c at Same) (ask_element query c.set v) x y w u (same-of (top_of (ops g f c at)) x y fine.0 top)
+      (asks at query v x w u links (fine.1 (natural x) (can-be (top_of (ops g f c at)) x y fine.0 top)) e)))
   done-alike (Clear v) at s t w u links backs same = clears at v s t w u
   done-alike (Assign v k line) at s t w u links backs same = λ fine h e. assigns g f c at v k line s t w u fine h e
   done-alike (Call function n line) at s t w u links backs same = calls-on at function n line s t w u backs same
   done-alike (Fit least greatest line) at s t w u links backs same = fits at least greatest line s t w u
   done-alike Return at s t w u links backs same = λ fine h e. returned g f c c.returns at s t w u fine backs h e
   done-alike (Leave state) at s t w u links backs same = λ fine h e.
-      lead g (Next g f c) _ _ w u (BothLeave state w u (same-outside g.hidden c.set (K g f c at) w u e) (kept g f c at f.leaves w u fine e))
+      lead g (Next g f c) _ _ w u (BothLeave state w u (same-outside g c.set (K g f c at) w u e) (kept g f c at f.leaves w u fine e))
   done-alike End at s t w u links backs same = ends at s t w u

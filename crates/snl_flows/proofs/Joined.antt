@@ -3,8 +3,9 @@ use Rattle.std.proofs.Common.{◌≡◌, ◌∙◌, refl, sym, ap, subst, ℕ, z
 use Rattle.std.specs.Prelude.{slice_index_or, slice_set}
 use Rattle.snl_meaning.specs.World.{SetMemory, World, copy_of, no_copy, words_for, with_words_for}
 use Rattle.snl_meaning.proofs.Sizes.{set-many}
+use Rattle.snl_flows.specs.Tables.{Ground}
 use Rattle.snl_flows.proofs.Agree.{AgreeOn, agree-same}
-use Rattle.snl_flows.proofs.Worlds.{CopiesAgree, Known, Own, SameOn, words-change}
+use Rattle.snl_flows.proofs.Worlds.{CopiesAgree, Fresh, Known, Own, SameOn, words-change}
 
 -- ---- lists and copies
 
@@ -44,39 +45,42 @@ copies-joined P b c d e f = record { state = e.state ∙ f.state; entered = e.en
 
 -- ---- worlds
 
-module _ (hidden : List (List ℕ)) (set : ℕ) (K : Bool → ℕ → Type 0) where
+module _ (g : Ground) (set : ℕ) (K : Bool → ℕ → Type 0) where
   -- a world and itself
-  pub same-self : (w : World) → SameOn hidden set K w w
+  pub same-self : (w : World) → SameOn g set K w w
   same-self w = record {
     same = refl;
     count = refl;
-    copies = λ n. record { state = refl; entered = refl; words = agree-same (Own hidden set K n) (copy_of n w).words };
+    copies = λ n. record { state = refl; entered = refl; words = agree-same (Own g set K n) (copy_of n w).words };
     functions = agree-same (K true) w.shared;
+    buffers = agree-same (Fresh g set) w.buffers;
   }
 
   -- the other way round
-  pub same-back : (w u : World) → SameOn hidden set K w u → SameOn hidden set K u w
+  pub same-back : (w u : World) → SameOn g set K w u → SameOn g set K u w
   same-back w u e = record {
-    same = sym (ap (λ (v : World). record v { copies = w.copies; shared = w.shared }) e.same);
+    same = sym (ap (λ (v : World). record v { copies = w.copies; shared = w.shared; buffers = w.buffers }) e.same);
     count = sym e.count;
-    copies = λ n. copies-back (Own hidden set K n) (copy_of n w) (copy_of n u) (e.copies n);
+    copies = λ n. copies-back (Own g set K n) (copy_of n w) (copy_of n u) (e.copies n);
     functions = agree-back (K true) w.shared u.shared e.functions;
+    buffers = agree-back (Fresh g set) w.buffers u.buffers e.buffers;
   }
 
   -- by a third one
-  pub same-joined : (w v u : World) → SameOn hidden set K w v → SameOn hidden set K v u → SameOn hidden set K w u
+  pub same-joined : (w v u : World) → SameOn g set K w v → SameOn g set K v u → SameOn g set K w u
   same-joined w v u e f = record {
-    same = ap (λ (x : World). record x { copies = u.copies; shared = u.shared }) e.same ∙ f.same;
+    same = ap (λ (x : World). record x { copies = u.copies; shared = u.shared; buffers = u.buffers }) e.same ∙ f.same;
     count = e.count ∙ f.count;
-    copies = λ n. copies-joined (Own hidden set K n) (copy_of n w) (copy_of n v) (copy_of n u) (e.copies n) (f.copies n);
+    copies = λ n. copies-joined (Own g set K n) (copy_of n w) (copy_of n v) (copy_of n u) (e.copies n) (f.copies n);
     functions = agree-joined (K true) w.shared v.shared u.shared e.functions f.functions;
+    buffers = agree-joined (Fresh g set) w.buffers v.buffers u.buffers e.buffers f.buffers;
   }
 
   -- a world and the same with other words of which nothing is known
-  pub words-set : (b : Bool) (xs : List ℤ) (w : World) → AgreeOn (Known hidden set K b) (words_for set b w) xs → SameOn hidden set K w (with_words_for set b xs w)
+  pub words-set : (b : Bool) (xs : List ℤ) (w : World) → AgreeOn (Known g set K b) (words_for set b w) xs → SameOn g set K w (with_words_for set b xs w)
   words-set b xs w new =
-      subst (λ (v : World). SameOn hidden set K v (with_words_for set b xs w)) (own b)
-      (words-change hidden set K K b (words_for set b w) xs w w (λ k p. p) new (same-self w))
+      subst (λ (v : World). SameOn g set K v (with_words_for set b xs w)) (own b)
+      (words-change g set K K b (words_for set b w) xs w w (λ k p. p) new (same-self w))
     where
       own : (c : Bool) → with_words_for set c (words_for set c w) w ≡ w
       own true = refl

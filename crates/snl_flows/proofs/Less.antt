@@ -6,7 +6,9 @@ use Rattle.snl_meaning.specs.declared.instrs.Instr.{Instr}
 use Rattle.snl_meaning.specs.declared.instrs.Instr.TheVariants.{Push, Load, Check, Get, Peek, Store, StoreAt, Adjust, Increment, AdjustAt, Apply, ApplyNumber, ApplyPrefix, Settle, Drop, Jump, JumpIfZero, Tick, Print, Wait, Put, PutAt, Ask, AskLink, AskElement, Clear, Assign, Call, Fit, Return, Leave, End}
 use Rattle.snl_meaning.specs.declared.instrs.Variable.{Variable}
 use Rattle.snl_meaning.specs.Run.{Entry}
-use Rattle.snl_flows.specs.Fine.{AreRead, AreTaken, Begins, IsFineAt, IsPut, IsPutBy, MayGetOther, Takes}
+use Rattle.snl_names.specs.declared.builtins.Query.{Query}
+use Rattle.snl_names.specs.declared.builtins.Query.TheVariants.{EfClear, EfSet, EfTest, EfTestAndClear, PvChannelCount, PvConnectCount, PvConnected, PvFlushQ, PvGet, PvGetQ, PvPutComplete}
+use Rattle.snl_flows.specs.Fine.{AreRead, AreTaken, Begins, IsFineAt, IsGot, IsPut, IsPutBy, MayGetOther, Takes}
 use Rattle.snl_flows.specs.Outside.{has, places_of}
 use Rattle.snl_flows.specs.Quiet.{AreFine, ArePassed, IsPassed, IsQuietAt, StaysIn}
 use Rattle.snl_flows.specs.Tables.{Operand, Flow, Ground, IsOpen, IsSameAt, MayDiffer, facts_at}
@@ -50,6 +52,20 @@ module _ (g : Ground) (places : List (List ℕ)) (set : ℕ) (f : Flow) (shows :
   put-less : (at place : ℕ) → IsPut g set f at place → IsPut less set f at place
   put-less at place put = λ link t found tied. put-by-less at place t.count t.channel (put link t found tied)
 
+  -- what is got
+  got-less : (query : Query) (place : ℕ) → IsGot g set f query place → IsGot less set f query place
+  got-less PvGet place got = λ link k t found tied low stale. differs-less false (place + k) (got link k t found tied low stale)
+  got-less PvGetQ place got = tt
+  got-less PvFlushQ place got = tt
+  got-less PvConnected place got = tt
+  got-less PvPutComplete place got = tt
+  got-less PvChannelCount place got = tt
+  got-less PvConnectCount place got = tt
+  got-less EfClear place got = tt
+  got-less EfSet place got = tt
+  got-less EfTest place got = tt
+  got-less EfTestAndClear place got = tt
+
   -- parameters
   taken-less : (ps : List Variable) (values : ℕ) (os : List Operand) (line : ℕ) → AreTaken g set f ps values os line → AreTaken less set f ps values os line
   taken-less [] values os line all = tt
@@ -85,8 +101,8 @@ module _ (g : Ground) (places : List (List ℕ)) (set : ℕ) (f : Flow) (shows :
   fine-less at (Put v is_async) h = (put-less at v.place h.0, h.1)
   fine-less at (PutAt v is_async) h = (h.0, (λ k can. put-less at _ (h.1 k can)), h.2)
   fine-less at (Ask query number) h = h
-  fine-less at (AskLink query v) h = h
-  fine-less at (AskElement query v) h = h
+  fine-less at (AskLink query v) h = (got-less query v.place h.0, h.1)
+  fine-less at (AskElement query v) h = (h.0, (λ k can. got-less query _ (h.1 k can)), h.2)
   fine-less at (Clear v) h = h
   fine-less at (Assign v element line) h = ⊎_elim (λ same. inl same) (λ other. inr (gets-less v element line other.0, other.1)) h
   fine-less at (Call function n line) h =

@@ -7,6 +7,7 @@ pub mod Operands
 pub mod Operators
 pub mod Alone
 pub mod Variables
+pub mod Links
 pub mod Kept
 pub mod Puts
 pub mod Calls
@@ -17,6 +18,7 @@ pub mod Runs
 pub mod Less
 pub mod Pieces
 pub mod Programs
+pub mod Buffers
 pub mod Alike
 pub mod Meets
 pub mod ByState

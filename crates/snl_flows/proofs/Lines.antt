@@ -1,7 +1,7 @@
 -- Where what is hidden is right, the lines of a program come out alike from worlds that are the same but for that.
 use Rattle.std.proofs.Common.{◌≡◌, ◌∙◌, ◌⊎◌, ◌+◌, ◌<◌, inl, inr, ⊎_elim, refl, sym, ap, subst, arith, ℕ, suc, pos, Bool, true, false, List, [], ◌∷◌, Option, Some, length, map}
 use Rattle.std.specs.Prelude.{nat_lt, option_map, slice_index_or}
-use Rattle.std.proofs.lemmas.Bool.{ltb-true, ltb-false}
+use Rattle.std.proofs.lemmas.Bool.{false≢true, ltb-true, ltb-false}
 use Rattle.std.proofs.lemmas.List.{length-map}
 use Rattle.snl_channels.specs.Links.{Link}
 use Rattle.snl_flat.specs.declared.code.Code.{Code}
@@ -39,18 +39,20 @@ use Rattle.snl_schedule.specs.Turn.{target_by}
 use Rattle.snl_syntax.specs.Expressions.{ExprTree}
 use Rattle.snl_syntax.specs.Programs.{ProgramTree, StateSetTree}
 use Rattle.snl_syntax.specs.Statements.{BlockTree}
-use Rattle.snl_alike.specs.Runs.{AreAlikeInRuns, HoldsBehind, NothingMore, StartAgrees}
+use Rattle.snl_alike.specs.Runs.{AnyComes, AreAlikeInRuns, HoldsBehind, NothingMore, StartAgrees}
 use Rattle.snl_alike.specs.TwoRuns.{Alike, BothGive, BothFault, FirstLeftOut, SecondLeftOut}
 use Rattle.snl_alike.proofs.Instants.{line-alike, started-alike}
-use Rattle.snl_alike.proofs.Programs.{nothing-behind, nothing-there}
+use Rattle.snl_alike.proofs.Programs.{any-comes, nothing-behind, nothing-there}
 use Rattle.snl_flows.specs.Flows.{AreFlowsOf, IsAlike, IsBetween, LinesFlow, RunsIn, ground_of}
 use Rattle.snl_flows.specs.LeftOut.{IsLeftOut}
-use Rattle.snl_flows.specs.Outside.{IsSameByState, Places, has, hidden_in, places_by, places_for, places_in, places_of}
-use Rattle.snl_flows.specs.Tables.{Ground, HasLinks}
+use Rattle.snl_flows.specs.Outside.{IsSameByState, Places, each_always, has, hidden_in, places_by, places_for, places_in, places_of}
+use Rattle.snl_flows.specs.Tables.{AreBehind, Ground, HasLinks}
 use Rattle.snl_flows.specs.Texts.{SameButValues, NoLines}
-use Rattle.snl_flows.proofs.Alike.{flow-in-runs}
-use Rattle.snl_flows.proofs.ByState.{AreInSame, IsAlikeIn, IsAlikeNow, back, by-wide, in-state, place-at, places-same, relisted, state-in-runs, to-now}
-use Rattle.snl_flows.proofs.Meets.{always-at, beyond, each_always, meet, meet-both, meet-has, met, met-open, met-own}
+use Rattle.snl_flows.proofs.Alike.{flow-in-runs, flow-stale}
+use Rattle.snl_flows.proofs.Buffers.{received-keeps}
+use Rattle.snl_flows.proofs.ByState.{AreInSame, IsAlikeIn, IsAlikeNow, back, by-wide, in-state, now-stale, place-at, places-same, relisted, state-in-runs, to-now}
+use Rattle.snl_flows.proofs.Links.{links-hidden, links-shown}
+use Rattle.snl_flows.proofs.Meets.{always-at, beyond, meet, meet-both, meet-has, met, met-open, met-own}
 use Rattle.snl_flows.proofs.Pieces.{CarriesOver, after-then, block-carries, each-flows, less-open, state-left-after}
 use Rattle.snl_flows.proofs.Programs.{IsOf, PiecesAgree, program-agrees}
 use Rattle.snl_flows.proofs.Runs.{many-by}
@@ -67,18 +69,18 @@ runs-of hidden ProgramExit state is = absurd is
 
 -- ---- a program
 
-module _ (p : ProgramTree) (ls : List Link) (c : Code) (hidden : List Places) (lines : List ℕ) (names : List (List ℕ)) (right : AreFlowsOf p ls c hidden lines names) where
+module _ (p : ProgramTree) (ls : List Link) (c : Code) (hidden : List Places) (stale lines : List ℕ) (names : List (List ℕ)) (right : AreFlowsOf p ls c hidden stale lines names) where
   -- what holds for all state sets, where nothing is hidden
   abbrev ground : Ground
-  ground = ground_of p ls c [] lines names
+  ground = ground_of p ls c [] stale lines names
 
   -- two worlds that are the same but for what is hidden in their states,
   abbrev Now : World → World → Type 0
-  Now = IsAlikeNow ground hidden right.wide
+  Now = IsAlikeNow ground hidden right.wide right.behind
 
   -- while a state set is in a state,
   abbrev In : (set state : ℕ) → World → World → Type 0
-  In = IsAlikeIn ground hidden right.wide
+  In = IsAlikeIn ground hidden right.wide right.behind
 
   -- and but for what is hidden in each state
   abbrev always : Ground
@@ -129,8 +131,8 @@ module _ (p : ProgramTree) (ls : List Link) (c : Code) (hidden : List Places) (l
 
   -- what comes out alike where the same is hidden before and behind it
   settled-now : {A : Type 0} (w : World) (r s : Ran A) → Keeps w (world_after r) → Alike Out (IsAlike (record ground { hidden = hidden_in hidden w })) Texts r s → Alike Out Now Texts r s
-  settled-now w _ _ keeps (BothGive v x y a b e t) = BothGive v x y a b (back ground hidden right.wide w x y (kept-places w x keeps) e) t
-  settled-now w _ _ keeps (BothFault fault line x y a b e t) = BothFault fault line x y a b (back ground hidden right.wide w x y (kept-places w x keeps) e) t
+  settled-now w _ _ keeps (BothGive v x y a b e t) = BothGive v x y a b (back ground hidden right.wide right.behind w x y (kept-places w x keeps) e) t
+  settled-now w _ _ keeps (BothFault fault line x y a b e t) = BothFault fault line x y a b (back ground hidden right.wide right.behind w x y (kept-places w x keeps) e) t
   settled-now w _ _ keeps (FirstLeftOut fault line x a r out) = FirstLeftOut fault line x a r out
   settled-now w _ _ keeps (SecondLeftOut fault line y b r out) = SecondLeftOut fault line y b r out
 
@@ -138,9 +140,9 @@ module _ (p : ProgramTree) (ls : List Link) (c : Code) (hidden : List Places) (l
   settled-in : {A : Type 0} (set state : ℕ) (w : World) (r s : Ran A) → (copy_of set w).state ≡ state → Keeps w (world_after r) →
       Alike Out (IsAlike (record ground { hidden = hidden_in hidden w })) Texts r s → Alike Out (In set state) Texts r s
   settled-in set state w _ _ is keeps (BothGive v x y a b e t) =
-      BothGive v x y a b (record { alike = back ground hidden right.wide w x y (kept-places w x keeps) e; is_in = keeps.states set ∙ is }) t
+      BothGive v x y a b (record { alike = back ground hidden right.wide right.behind w x y (kept-places w x keeps) e; is_in = keeps.states set ∙ is }) t
   settled-in set state w _ _ is keeps (BothFault fault line x y a b e t) =
-      BothFault fault line x y a b (record { alike = back ground hidden right.wide w x y (kept-places w x keeps) e; is_in = keeps.states set ∙ is }) t
+      BothFault fault line x y a b (record { alike = back ground hidden right.wide right.behind w x y (kept-places w x keeps) e; is_in = keeps.states set ∙ is }) t
   settled-in set state w _ _ is keeps (FirstLeftOut fault line x a r out) = FirstLeftOut fault line x a r out
   settled-in set state w _ _ is keeps (SecondLeftOut fault line y b r out) = SecondLeftOut fault line y b r out
 
@@ -177,7 +179,7 @@ module _ (p : ProgramTree) (ls : List Link) (c : Code) (hidden : List Places) (l
   -- behind an exit block all is the same that was so on the way to a state
   exit-carries : (set state to : ℕ) (b : BlockTree) → kept_piece reached p (Exit set state) ≡ Some (Action set b) → (w u : World) → In set state w u → CarriesOver hidden set state to w u →
       HoldsBehind (λ _. CarriesOver hidden set state to) (then_do (block_effect (scene_in p set) b w) state_left_for) (then_do (block_effect (scene_in p set) b u) state_left_for)
-  exit-carries set state to b is w u e carries = by _ _ (each-flows p ls c hidden lines names right (Exit set state) (Action set b) state less is refl within w u alike)
+  exit-carries set state to b is w u e carries = by _ _ (each-flows p ls c hidden stale lines names right (Exit set state) (Action set b) state less is refl within w u alike)
     where
       s : Places
       s = places_for hidden set
@@ -205,13 +207,27 @@ module _ (p : ProgramTree) (ls : List Link) (c : Code) (hidden : List Places) (l
           inr (subst (λ (m : ℕ). slice_index_or (copy_of m w).words k (pos 0) ≡ slice_index_or (copy_of m u).words k (pos 0)) (sym own.0) (carries k (inside.high k own.1) own.2)))
           (met-open (hidden_in hidden w) set (places_in s to) n k shows)
 
+      -- what is hidden in each state is so there
+      covered : (n k : ℕ) → has (places_for hidden n).always k ≡ true → (b : Bool) → has (places_of less n) k ≡ b → has (places_of less n) k ≡ true
+      covered n k here true is = is
+      covered n k here false shows =
+          ⊎_elim
+          (λ (free : has (places_of (hidden_in hidden w) n) k ≡ false).
+          absurd (false≢true (sym free ∙ ap (λ (ps : List ℕ). has ps k) (place-at w.phase hidden w.copies n) ∙ by-wide hidden right.wide w.phase n (copy_of n w).state k here)))
+          (λ (own : (n ≡ set) × (has held k ≡ true) × (has (places_in s to) k ≡ false)).
+          absurd (false≢true (sym own.2 ∙ right.wide set to k (subst (λ (m : ℕ). has (places_for hidden m).always k ≡ true) own.0 here))))
+          (met-open (hidden_in hidden w) set (places_in s to) n k shows)
+
+      behind : AreBehind (record ground { hidden = less })
+      behind = record {
+        hides = λ n link k home t at begins low old.
+            covered n (home + k) (subst (λ (ps : List ℕ). has ps (home + k) ≡ true) (always-at hidden n) (right.behind.hides n link k home t at begins low old))
+            (has (places_of less n) (home + k)) refl;
+        queued = right.behind.queued;
+      }
+
       alike : IsAlike (record ground { hidden = less }) w u
-      alike =
-          let links = e.alike.links in
-          record {
-            links = record { channels = links.channels; ties = links.ties; homes = links.homes; many = links.many };
-            outside = relisted (hidden_in hidden w) less w u same-there e.alike.outside;
-          }
+      alike = record { behind = behind; links = links-hidden ground less w e.alike.links; outside = relisted stale (hidden_in hidden w) less w u same-there e.alike.outside }
 
       by : (r t : Ran (Option ℕ)) → Alike Out (IsAlike (record ground { hidden = less })) Texts r t → HoldsBehind (λ _. CarriesOver hidden set state to) r t
       by _ _ (BothGive v x y a d k t) = λ n here shows.
@@ -227,21 +243,21 @@ module _ (p : ProgramTree) (ls : List Link) (c : Code) (hidden : List Places) (l
   pieces-now = record {
     tests = λ set state name x of is w u e.
         settled-in set state w _ _ e.is_in (test-keeps set x w)
-        (each-flows p ls c hidden lines names right name (Test set x) state (hidden_in hidden w) is (runs-of hidden name state of) (between set state w e.is_in) w u
-        (to-now ground hidden right.wide w u e.alike));
+        (each-flows p ls c hidden stale lines names right name (Test set x) state (hidden_in hidden w) is (runs-of hidden name state of) (between set state w e.is_in) w u
+        (to-now ground hidden right.wide right.behind w u e.alike));
     blocks = λ set state name b of is w u e.
         settled-in set state w _ _ e.is_in (block-keeps set b w)
-        (each-flows p ls c hidden lines names right name (Action set b) state (hidden_in hidden w) is (runs-of hidden name state of) (between set state w e.is_in) w u
-        (to-now ground hidden right.wide w u e.alike));
+        (each-flows p ls c hidden stale lines names right name (Action set b) state (hidden_in hidden w) is (runs-of hidden name state of) (between set state w e.is_in) w u
+        (to-now ground hidden right.wide right.behind w u e.alike));
     own = λ b which w u e.
         let some = some-state w in
         settled-now w _ _ (block-keeps 0 b w)
-        (⊎_elim (λ (entry : p.entry ≡ Some b). each-flows p ls c hidden lines names right ProgramEntry (Action 0 b) some.0 (hidden_in hidden w)
-        (ap (option_map (Action 0)) entry) some.1 some.2 w u (to-now ground hidden right.wide w u e))
-        (λ (exit : p.exit ≡ Some b). each-flows p ls c hidden lines names right ProgramExit (Action 0 b) some.0 (hidden_in hidden w)
-        (ap (option_map (Action 0)) exit) some.1 some.2 w u (to-now ground hidden right.wide w u e)) which);
+        (⊎_elim (λ (entry : p.entry ≡ Some b). each-flows p ls c hidden stale lines names right ProgramEntry (Action 0 b) some.0 (hidden_in hidden w)
+        (ap (option_map (Action 0)) entry) some.1 some.2 w u (to-now ground hidden right.wide right.behind w u e))
+        (λ (exit : p.exit ≡ Some b). each-flows p ls c hidden stale lines names right ProgramExit (Action 0 b) some.0 (hidden_in hidden w)
+        (ap (option_map (Action 0)) exit) some.1 some.2 w u (to-now ground hidden right.wide right.behind w u e)) which);
     leads = λ set state k x clause is w u e.
-        block-carries p ls c hidden lines names right set state k x (hidden_in hidden w) clause is (between set state w e.is_in) w u (to-now ground hidden right.wide w u e.alike);
+        block-carries p ls c hidden stale lines names right set state k x (hidden_in hidden w) clause is (between set state w e.is_in) w u (to-now ground hidden right.wide right.behind w u e.alike);
     keeps = λ set state to b is w u e l. exit-carries set state to b is w u e l;
   }
 
@@ -255,11 +271,12 @@ module _ (p : ProgramTree) (ls : List Link) (c : Code) (hidden : List Places) (l
   -- all pieces
   pieces-always : PiecesAgree Out Texts NoLines (texts-joined names) (IsAlike always) (λ set state. IsAlike always) NothingMore p reached
   pieces-always = record {
-    tests = λ set state name x of is. each-flows p ls c hidden lines names right name (Test set x) state (each_always hidden) is (runs-of hidden name state of) (among set state);
-    blocks = λ set state name b of is. each-flows p ls c hidden lines names right name (Action set b) state (each_always hidden) is (runs-of hidden name state of) (among set state);
+    tests = λ set state name x of is. each-flows p ls c hidden stale lines names right name (Test set x) state (each_always hidden) is (runs-of hidden name state of) (among set state);
+    blocks = λ set state name b of is. each-flows p ls c hidden stale lines names right name (Action set b) state (each_always hidden) is (runs-of hidden name state of) (among set state);
     own = λ b which.
-        ⊎_elim (λ (entry : p.entry ≡ Some b). each-flows p ls c hidden lines names right ProgramEntry (Action 0 b) 0 (each_always hidden) (ap (option_map (Action 0)) entry) right.some (among 0 0))
-        (λ (exit : p.exit ≡ Some b). each-flows p ls c hidden lines names right ProgramExit (Action 0 b) 0 (each_always hidden) (ap (option_map (Action 0)) exit) right.some (among 0 0)) which;
+        ⊎_elim (λ (entry : p.entry ≡ Some b). each-flows p ls c hidden stale lines names right ProgramEntry (Action 0 b) 0 (each_always hidden)
+        (ap (option_map (Action 0)) entry) right.some (among 0 0))
+        (λ (exit : p.exit ≡ Some b). each-flows p ls c hidden stale lines names right ProgramExit (Action 0 b) 0 (each_always hidden) (ap (option_map (Action 0)) exit) right.some (among 0 0)) which;
     leads = λ set state k x clause is w u e.
         nothing-behind {A = Option ℕ} set state (λ left. target_by left (target_of (scene_in p set).here.states x.target))
         (then_do (block_effect (scene_in p set) x.block w) state_left_for) (then_do (block_effect (scene_in p set) x.block u) state_left_for);
@@ -284,7 +301,7 @@ module _ (p : ProgramTree) (ls : List Link) (c : Code) (hidden : List Places) (l
 
     -- what runs keep, by states
     abbrev now-runs : AreAlikeInRuns (length p.state_sets) (λ n m. n ≡ m) Now In (CarriesOver hidden) Texts
-    now-runs = state-in-runs ground hidden right.wide (length p.state_sets) some as-many
+    now-runs = state-in-runs ground hidden right.wide right.behind (length p.state_sets) some as-many
 
     -- and at the start
     abbrev always-runs : AreAlikeInRuns (length p.state_sets) (λ n m. n ≡ m) (IsAlike always) (λ set state. IsAlike always) NothingMore Texts
@@ -293,8 +310,9 @@ module _ (p : ProgramTree) (ls : List Link) (c : Code) (hidden : List Places) (l
     -- a world that waits
     to-always : (w u : World) → w.phase ≡ Waiting → Now w u → IsAlike always w u
     to-always w u waiting e = record {
-      links = record { channels = e.links.channels; ties = e.links.ties; homes = e.links.homes; many = e.links.many };
-      outside = relisted (hidden_in hidden w) (each_always hidden) w u
+      behind = right.behind;
+      links = links-hidden ground (each_always hidden) w e.links;
+      outside = relisted stale (hidden_in hidden w) (each_always hidden) w u
           (λ n k shows. inl (subst (λ (ps : List ℕ). has ps k ≡ false) (sym (place-at w.phase hidden w.copies n))
           (subst (λ (phase : Live). has (places_by phase (places_for hidden n) (copy_of n w).state) k ≡ false) (sym waiting)
           (subst (λ (ps : List ℕ). has ps k ≡ false) (always-at hidden n) shows)))) e.outside;
@@ -303,8 +321,8 @@ module _ (p : ProgramTree) (ls : List Link) (c : Code) (hidden : List Places) (l
     -- what is the same but for that is so by states
     to-states : (w u : World) → IsAlike always w u → Now w u
     to-states w u e = record {
-      links = record { channels = e.links.channels; ties = e.links.ties; homes = e.links.homes; many = e.links.many };
-      outside = relisted (each_always hidden) (hidden_in hidden w) w u
+      links = links-shown ground (each_always hidden) w e.links;
+      outside = relisted stale (each_always hidden) (hidden_in hidden w) w u
           (λ n k shows. inl (subst (λ (ps : List ℕ). has ps k ≡ false) (sym (always-at hidden n))
           (less-open (places_by w.phase (places_for hidden n) (copy_of n w).state) (places_for hidden n).always k (by-wide hidden right.wide w.phase n (copy_of n w).state k)
           (subst (λ (ps : List ℕ). has ps k ≡ false) (place-at w.phase hidden w.copies n) shows)))) e.outside;
@@ -320,25 +338,28 @@ module _ (p : ProgramTree) (ls : List Link) (c : Code) (hidden : List Places) (l
     -- the start
     start-now : StartAgrees Out Now Texts program
     start-now w u waiting e =
-        weaker _ _ (started-alike Out (length p.state_sets) (λ n m. n ≡ m) (IsAlike always) (λ set state. IsAlike always) NothingMore Texts always-runs program
-        (program-agrees Out Texts NoLines (texts-joined names) (IsAlike always) (λ set state. IsAlike always) NothingMore p reached pieces-always ls waits)
+        weaker _ _ (started-alike Out (length p.state_sets) (λ n m. n ≡ m) (IsAlike always) (λ set state. IsAlike always) NothingMore Texts always-runs AnyComes program
+        (program-agrees Out Texts NoLines (texts-joined names) (IsAlike always) (λ set state. IsAlike always) NothingMore p reached pieces-always AnyComes ls waits
+        (λ channel values link t x y may is k. received-keeps always (IsAlike always) (flow-stale always) channel values link t is x y k))
         (λ set low x y k. always-runs.enters set (copy_of set x).state 0 true low (inl refl) x y k tt) w u (to-always w u waiting e))
 
     -- a line without what is never reached
     line-now : (budget ms : ℕ) (event : Event) (w u : World) → Now w u → Alike Out Now Texts (line_of program budget ms event w) (line_of program budget ms event u)
     line-now budget ms event w u e =
-        line-alike Out (length p.state_sets) (λ n m. n ≡ m) Now In (CarriesOver hidden) Texts now-runs program
-        (program-agrees Out Texts NoLines (texts-joined names) Now In (CarriesOver hidden) p reached pieces-now ls waits) start-now budget ms ms refl event w u e
+        line-alike Out (length p.state_sets) (λ n m. n ≡ m) Now In (CarriesOver hidden) Texts now-runs AnyComes program
+        (program-agrees Out Texts NoLines (texts-joined names) Now In (CarriesOver hidden) p reached pieces-now AnyComes ls waits
+        (λ channel values link t x y may is k. received-keeps ground Now (now-stale ground hidden right.wide right.behind) channel values link t is x y k))
+        start-now budget ms ms refl event (any-comes event) w u e
 
   -- what is known of links is let go
-  let-go : {A : Type 0} (r s : Ran A) → Alike Out Now Texts r s → Alike Out (IsSameByState hidden) Texts r s
+  let-go : {A : Type 0} (r s : Ran A) → Alike Out Now Texts r s → Alike Out (IsSameByState hidden stale) Texts r s
   let-go _ _ (BothGive v w u a b e t) = BothGive v w u a b e.outside t
   let-go _ _ (BothFault fault line w u a b e t) = BothFault fault line w u a b e.outside t
   let-go _ _ (FirstLeftOut fault line w a r out) = FirstLeftOut fault line w a r out
   let-go _ _ (SecondLeftOut fault line u b r out) = SecondLeftOut fault line u b r out
 
   -- states that a run can come to are so in the second world, too
-  reached-in-both : (w u : World) → IsSameByState hidden w u → AreReached p reached w → AreReached p reached u
+  reached-in-both : (w u : World) → IsSameByState hidden stale w u → AreReached p reached w → AreReached p reached u
   reached-in-both w u e at going set = subst (IsIn p reached set) (e.copies set).state (at (λ ended. going (sym (ap (λ (v : World). v.phase) e.same) ∙ ended)) set)
 
   -- in the first world a machine of the program can be
@@ -347,6 +368,7 @@ module _ (p : ProgramTree) (ls : List Link) (c : Code) (hidden : List Places) (l
     channels = ap (λ (r : Frame). r.channels) can.world_is.frame_is;
     ties = ap (λ (r : Frame). r.ties) can.world_is.frame_is;
     homes = ap (λ (r : Frame). r.homes) can.world_is.frame_is;
+    rooms = ap (λ (r : Frame). r.queues) can.world_is.frame_is;
     many = sym (length-map w.copies (λ (x : SetMemory). length x.words)) ∙ ap (λ (r : Frame). length r.words) can.world_is.frame_is
         ∙ length-map (held_sets p 0 p.state_sets) words_of ∙ held-many (variables_of p) 0 p.state_sets
         ∙ sym (length-map (placed_sets p 0 p.state_sets) (λ places. map (home_in places) ls) ∙ placed-many (placed_in p) 0 p.state_sets);
@@ -362,13 +384,13 @@ module _ (p : ProgramTree) (ls : List Link) (c : Code) (hidden : List Places) (l
 
 -- the law
 pub lines_flow : LinesFlow
-lines_flow p ls c hidden lines names waits budget ms event w u right some can e =
+lines_flow p ls c hidden stale lines names waits budget ms event w u right some can e =
     let reached = holds_in (table_of c) in
     let closed = reached_are_closed p reached right.code.reached in
-    let there : AreReached p reached u = reached-in-both p ls c hidden lines names right w u e can.reached in
+    let there : AreReached p reached u = reached-in-both p ls c hidden stale lines names right w u e can.reached in
     let less : World → Ran Live = λ x. line_of (only_reached reached (program_meaning p ls waits)) budget ms event x in
-    let both = line-now p ls c hidden lines names right waits some budget ms event w u (record { links = linked p ls c hidden lines names right w can; outside = e }) in
-    subst (λ (r : Ran Live). Alike (IsLeftOut lines) (IsSameByState hidden) (SameButValues names) r (line_of (program_meaning p ls waits) budget ms event u))
+    let both = line-now p ls c hidden stale lines names right waits some budget ms event w u (record { links = linked p ls c hidden stale lines names right w can; outside = e }) in
+    subst (λ (r : Ran Live). Alike (IsLeftOut lines) (IsSameByState hidden stale) (SameButValues names) r (line_of (program_meaning p ls waits) budget ms event u))
     (unreached_do_nothing p ls waits reached budget ms event w closed can.reached)
-    (subst (λ (r : Ran Live). Alike (IsLeftOut lines) (IsSameByState hidden) (SameButValues names) (less w) r) (unreached_do_nothing p ls waits reached budget ms event u closed there)
-    (let-go p ls c hidden lines names right (less w) (less u) both))
+    (subst (λ (r : Ran Live). Alike (IsLeftOut lines) (IsSameByState hidden stale) (SameButValues names) (less w) r) (unreached_do_nothing p ls waits reached budget ms event u closed there)
+    (let-go p ls c hidden stale lines names right (less w) (less u) both))

@@ -1,8 +1,8 @@
 -- Places that are hidden in two states, and in each one.
-use Rattle.std.proofs.Common.{◌≡◌, ◌∙◌, ◌⊎◌, ◌<◌, inl, inr, ⊎_elim, refl, sym, ap, subst, arith, ℕ, zero, suc, Bool, true, false, List, [], ◌∷◌, length, map, if◌then◌else◌}
+use Rattle.std.proofs.Common.{◌≡◌, ◌∙◌, ◌⊎◌, ◌<◌, inl, inr, ⊎_elim, refl, sym, ap, subst, arith, ℕ, zero, suc, Bool, true, false, List, [], ◌∷◌, length, if◌then◌else◌}
 use Rattle.std.specs.Prelude.{◌==◌, ◌||◌, slice_index_or}
 use Rattle.std.proofs.lemmas.Bool.{eqb-true, false≢true, or_cases}
-use Rattle.snl_flows.specs.Outside.{Places, has, places_for, places_of}
+use Rattle.snl_flows.specs.Outside.{Places, each_always, has, places_for, places_of}
 
 -- ---- places that are hidden in two states
 
@@ -74,10 +74,6 @@ met-open (xs ∷ rest) (suc set) ys (suc n) k shows =
     ⊎_elim (λ before. inl before) (λ (other : (n ≡ set) × (has (places_of rest set) k ≡ true) × (has ys k ≡ false)). inr (ap suc other.0, other.1, other.2)) (met-open rest set ys n k shows)
 
 -- ---- places that are hidden in each state
-
--- By state set.
-abbrev pub each_always : List Places → List (List ℕ)
-each_always hidden = map (λ (s : Places). s.always) hidden
 
 -- those of a state set
 pub always-at : (hidden : List Places) (set : ℕ) → places_of (each_always hidden) set ≡ (places_for hidden set).always

@@ -1,10 +1,10 @@
--- With no line nothing is left out, and with no name texts are the same.
-use Rattle.std.proofs.Common.{◌≡◌, refl, ap, ℕ, true, List, [], ◌++◌}
+-- With no line nothing is left out, with no name texts are the same, and with no stale place buffers are.
+use Rattle.std.proofs.Common.{◌≡◌, ◌∙◌, ◌+◌, refl, ap, subst, arith, ℕ, suc, ℤ, true, List, [], ◌∷◌, ◌++◌}
 use Rattle.snl_meaning.specs.declared.faults.Fault.{Fault}
 use Rattle.snl_meaning.specs.declared.faults.Fault.TheVariants.{Overflow, DivisionByZero, OutOfRange, DoesNotFit, BadShift, BudgetSpent}
-use Rattle.snl_flows.specs.Flows.{NothingIsLeftOut}
+use Rattle.snl_flows.specs.Flows.{NothingIsLeftOut, NothingIsStale}
 use Rattle.snl_flows.specs.LeftOut.{IsLeftOut}
-use Rattle.snl_flows.specs.Outside.{has}
+use Rattle.snl_flows.specs.Outside.{AreSameOutside, BuffersAreSame, has}
 use Rattle.snl_flows.specs.Texts.{SameButValues, NoLines, SameLine, OtherValues, OtherNumbers, FirstPrints, SecondPrints}
 
 -- no line is one of none
@@ -32,3 +32,27 @@ no-values _ _ (SecondPrints ms set format ys a b inside named h) = absurd named
 -- both
 pub nothing_is_left_out : NothingIsLeftOut
 nothing_is_left_out = record { faults = no-fault; texts = no-values }
+
+-- ---- stale places
+
+-- words are the same where no place is hidden
+pub outside-none : (words others : List ℤ) → AreSameOutside [] words others → words ≡ others
+outside-none [] [] same = refl
+outside-none [] (y ∷ others) same = let many = same.long in absurd (omega (arith, many))
+outside-none (x ∷ words) [] same = let many = same.long in absurd (omega (arith, many))
+outside-none (x ∷ words) (y ∷ others) same =
+    let first : x ≡ y = same.at 0 refl in
+    let many = same.long in
+    let rest : words ≡ others = outside-none words others (record { long = omega (arith, many); at = λ k free. same.at (suc k) free }) in
+    ap (λ (z : ℤ). z ∷ words) first ∙ ap (λ (ws : List ℤ). y ∷ ws) rest
+
+-- so buffers are
+pub buffers_are_same : BuffersAreSame
+buffers_are_same hidden w u e = outside-none w.buffers u.buffers e.buffers
+
+-- no stale place comes anywhere
+pub nothing_is_stale : NothingIsStale
+nothing_is_stale g none = record {
+  hides = λ set link e home t at begins low stale. absurd (none-has (t.from + e) (subst (λ (places : List ℕ). has places (t.from + e) ≡ true) none stale));
+  queued = λ link e t at some low. ap (λ (places : List ℕ). has places (t.from + e)) none;
+}

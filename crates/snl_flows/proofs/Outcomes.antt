@@ -14,7 +14,7 @@ use Rattle.snl_flows.proofs.Texts.{texts-joined}
 -- fault; or one comes to a fault that is left out.
 pub data AlikeTo {A : Type 0} (g : Ground) (F : A → A → World → World → Type 0) : Ran A → Ran A → Type 0 where
   BothLead : (x y : A) (w u : World) (a b : List ℕ) → F x y w u → SameButValues g.names a b → AlikeTo g F (Gives x w a) (Gives y u b)
-  BothStop : (fault : Fault) (line : ℕ) (w u : World) (a b : List ℕ) → IsSameOutside g.hidden w u → SameButValues g.names a b → AlikeTo g F (Faults fault line w a) (Faults fault line u b)
+  BothStop : (fault : Fault) (line : ℕ) (w u : World) (a b : List ℕ) → IsSameOutside g.hidden g.stale w u → SameButValues g.names a b → AlikeTo g F (Faults fault line w a) (Faults fault line u b)
   FirstStops : (fault : Fault) (line : ℕ) (w : World) (a : List ℕ) (s : Ran A) → IsLeftOut g.lines fault line → AlikeTo g F (Faults fault line w a) s
   SecondStops : (fault : Fault) (line : ℕ) (u : World) (b : List ℕ) (r : Ran A) → IsLeftOut g.lines fault line → AlikeTo g F r (Faults fault line u b)
 
@@ -24,7 +24,8 @@ module _ (g : Ground) where
   lead F x y w u e = BothLead x y w u [] [] e NoLines
 
   -- the same fault, with no text
-  pub stop : {A : Type 0} (F : A → A → World → World → Type 0) (fault : Fault) (line : ℕ) (w u : World) → IsSameOutside g.hidden w u → AlikeTo g F (Faults fault line w []) (Faults fault line u [])
+  pub stop : {A : Type 0} (F : A → A → World → World → Type 0) (fault : Fault) (line : ℕ) (w u : World) → IsSameOutside g.hidden g.stale w u →
+      AlikeTo g F (Faults fault line w []) (Faults fault line u [])
   stop F fault line w u e = BothStop fault line w u [] [] e NoLines
 
   -- after texts

@@ -38,7 +38,7 @@ use Rattle.snl_flows.specs.Quiet.{AreFine}
 use Rattle.snl_flows.specs.Flows.{AreFlowsOf, CoversBy, IsAlike, IsBehind, IsBehindPiece, IsBetween, PieceFlows, PiecesFlow, RunsIn, all_in, ground_of, set_of}
 use Rattle.snl_flows.specs.LeftOut.{IsLeftOut}
 use Rattle.snl_flows.specs.Outside.{AreSameAt, IsSameOutside, Places, has, places_for, places_in, places_of}
-use Rattle.snl_flows.specs.Tables.{Flow, Ground, HasLinks, facts_at, first_facts}
+use Rattle.snl_flows.specs.Tables.{AreBehind, Flow, Ground, HasLinks, facts_at, first_facts}
 use Rattle.snl_flows.specs.Texts.{IsInLine, SameButValues}
 use Rattle.snl_flows.proofs.Less.{all-less}
 use Rattle.snl_flows.proofs.Outcomes.{AlikeTo, BothLead, BothStop, FirstStops, SecondStops, lead, less-to, then-to}
@@ -98,22 +98,22 @@ KnownLeft f set (Some state) w u = AreSameAt set f.leaves w u
 module _ (g : Ground) (f : Flow) (set : ℕ) where
   -- two values that are the same, in worlds that are the same outside,
   abbrev SameValue : {A : Type 0} → A → A → World → World → Type 0
-  SameValue x y w u = (x ≡ y) × IsSameOutside g.hidden w u
+  SameValue x y w u = (x ≡ y) × IsSameOutside g.hidden g.stale w u
 
   -- and two states that are left for
   abbrev SameLeft : Option ℕ → Option ℕ → World → World → Type 0
-  SameLeft x y w u = (x ≡ y) × IsSameOutside g.hidden w u × KnownLeft f set x w u
+  SameLeft x y w u = (x ≡ y) × IsSameOutside g.hidden g.stale w u × KnownLeft f set x w u
 
   -- what is made of an exit
   made-alike : {A : Type 0} (G : A → A → World → World → Type 0) (make : Exit → World → Ran A) →
-      ((x : Exit) (w u : World) → IsSameOutside g.hidden w u → KnownBehind f set x w u → AlikeTo {A = A} g G (make x w) (make x u)) → (r s : Ran Exit) →
+      ((x : Exit) (w u : World) → IsSameOutside g.hidden g.stale w u → KnownBehind f set x w u → AlikeTo {A = A} g G (make x w) (make x u)) → (r s : Ran Exit) →
       AlikeTo g (Ends g f set) r s → AlikeTo {A = A} g G (then_do r make) (then_do s make)
   made-alike {A = A} G make by r s h =
       then-to g (Ends g f set) G r s make make h
       (λ x y w u e. subst (λ (z : Exit). AlikeTo {A = A} g G (make x w) (make z u)) e.0 (by x w u e.1 e.2))
 
   -- a value of an exit
-  held-alike : (x : Exit) (w u : World) → IsSameOutside g.hidden w u → KnownBehind f set x w u → AlikeTo g SameValue (held x w) (held x u)
+  held-alike : (x : Exit) (w u : World) → IsSameOutside g.hidden g.stale w u → KnownBehind f set x w u → AlikeTo g SameValue (held x w) (held x u)
   held-alike (Over []) w u e known = lead g SameValue false false w u (refl, e)
   held-alike (Over (z ∷ s)) w u e known = lead g SameValue _ _ w u (refl, e)
   held-alike (LeftFor state) w u e known = lead g SameValue false false w u (refl, e)
@@ -121,20 +121,20 @@ module _ (g : Ground) (f : Flow) (set : ℕ) where
   held-alike Stuck w u e known = absurd known
 
   -- a state of one
-  left-alike : (x : Exit) (w u : World) → IsSameOutside g.hidden w u → KnownBehind f set x w u → AlikeTo g SameLeft (left x w) (left x u)
+  left-alike : (x : Exit) (w u : World) → IsSameOutside g.hidden g.stale w u → KnownBehind f set x w u → AlikeTo g SameLeft (left x w) (left x u)
   left-alike (Over s) w u e known = lead g SameLeft None None w u (refl, e, known)
   left-alike (LeftFor state) w u e known = lead g SameLeft (Some state) (Some state) w u (refl, e, known)
   left-alike Unfinished w u e known = absurd known
   left-alike Stuck w u e known = absurd known
 
   -- with what is known of the world that the first one leaves
-  alike-by : {A : Type 0} (r s : Ran A) → HasLinks g (world_after r) → AlikeTo {A = A} g SameValue r s → Alike (IsLeftOut g.lines) (IsAlike g) (SameButValues g.names) r s
-  alike-by {A = A} _ _ links (BothLead x y w u a b e t) =
+  alike-by : {A : Type 0} (r s : Ran A) → AreBehind g → HasLinks g (world_after r) → AlikeTo {A = A} g SameValue r s → Alike (IsLeftOut g.lines) (IsAlike g) (SameButValues g.names) r s
+  alike-by {A = A} _ _ behind links (BothLead x y w u a b e t) =
       subst (λ (z : A). Alike (IsLeftOut g.lines) (IsAlike g) (SameButValues g.names) (Gives x w a) (Gives z u b)) e.0
-      (BothGive x w u a b (record { links = links; outside = e.1 }) t)
-  alike-by _ _ links (BothStop fault line w u a b e t) = BothFault fault line w u a b (record { links = links; outside = e }) t
-  alike-by _ _ links (FirstStops fault line w a s out) = FirstLeftOut fault line w a s out
-  alike-by _ _ links (SecondStops fault line u b r out) = SecondLeftOut fault line u b r out
+      (BothGive x w u a b (record { behind = behind; links = links; outside = e.1 }) t)
+  alike-by _ _ behind links (BothStop fault line w u a b e t) = BothFault fault line w u a b (record { behind = behind; links = links; outside = e }) t
+  alike-by _ _ behind links (FirstStops fault line w a s out) = FirstLeftOut fault line w a s out
+  alike-by _ _ behind links (SecondStops fault line u b r out) = SecondLeftOut fault line u b r out
 
   -- and what is known behind both
   behind-by : (r s : Ran (Option ℕ)) → AlikeTo g SameLeft r s → HoldsBehind (KnownLeft f set) r s
@@ -151,6 +151,7 @@ module _ (g : Ground) where
     channels = ap (λ (r : Frame). r.channels) same ∙ links.channels;
     ties = ap (λ (r : Frame). r.ties) same ∙ links.ties;
     homes = ap (λ (r : Frame). r.homes) same ∙ links.homes;
+    rooms = ap (λ (r : Frame). r.queues) same ∙ links.rooms;
     many = many-by w v same ∙ links.many;
   }
 
@@ -206,15 +207,15 @@ carried hidden set from target f behind (Gives (Some state) w a) (Gives z u b) k
 carried hidden set from target f behind (Gives v w a) (Faults fault line u b) known = tt
 carried hidden set from target f behind (Faults fault line w a) s known = tt
 
-module _ (p : ProgramTree) (ls : List Link) (c : Code) (places : List (List ℕ)) (lines : List ℕ) (names : List (List ℕ))
+module _ (p : ProgramTree) (ls : List Link) (c : Code) (places : List (List ℕ)) (stale lines : List ℕ) (names : List (List ℕ))
     (texts : texts_of c ≡ flat_map format_at (sites p)) (named : (set : ℕ) → IsInLine (name_by (slice_get p.state_sets set))) where
   -- what holds for all state sets
   abbrev ground : Ground
-  ground = ground_of p ls c places lines names
+  ground = ground_of p ls c places stale lines names
 
   -- the runs of a piece, from worlds that are the same outside
   run-of-piece : (set room start : ℕ) (f : Flow) → AreFine ground set f c.instrs.items → facts_at f start ≡ first_facts → (w u : World) → HasLinks ground w →
-      IsSameOutside places w u → IsOver (run_of (context_of (scene_in p set) (entries_of c) room) c.instrs.items start w) →
+      IsSameOutside places stale w u → IsOver (run_of (context_of (scene_in p set) (entries_of c) room) c.instrs.items start w) →
       IsOver (run_of (context_of (scene_in p set) (entries_of c) room) c.instrs.items start u) →
       AlikeTo ground (Ends ground f set) (run_of (context_of (scene_in p set) (entries_of c) room) c.instrs.items start w)
       (run_of (context_of (scene_in p set) (entries_of c) room) c.instrs.items start u)
@@ -235,7 +236,7 @@ module _ (p : ProgramTree) (ls : List Link) (c : Code) (places : List (List ℕ)
       (subst (λ (r : Ran Exit). AlikeTo ground F (run_of (context_of (scene_in p set) (entries_of c) room) c.instrs.items start w) r) (code.is u)
       (run-of-piece set room start f fine empty w u e.links e.outside
       (subst IsOver (sym (code.is w)) (over-value (value w))) (subst IsOver (sym (code.is u)) (over-value (value u))))) in
-      alike-by ground f set (then_do (value w) holds) (then_do (value u) holds)
+      alike-by ground f set (then_do (value w) holds) (then_do (value u) holds) e.behind
       (links-by ground w (world_after (then_do (value w) holds)) ((pieces_keep_the_frame (routines_in p) (scene_in p set) refl).condition (Some x) w) e.links)
       (subst (λ (r : Ran Bool). AlikeTo ground (SameValue ground f set) r (then_do (value u) holds)) (held-back (value w))
       (subst (λ (r : Ran Bool). AlikeTo ground (SameValue ground f set) (then_do (then_do (value w) ends_with) held) r) (held-back (value u))
@@ -268,7 +269,7 @@ module _ (p : ProgramTree) (ls : List Link) (c : Code) (places : List (List ℕ)
     -- the block
     action-flows : Alike (IsLeftOut lines) (IsAlike ground) (SameButValues names) (then_do (way w) state_left_for) (then_do (way u) state_left_for)
     action-flows =
-        alike-by ground f set (then_do (way w) state_left_for) (then_do (way u) state_left_for)
+        alike-by ground f set (then_do (way w) state_left_for) (then_do (way u) state_left_for) e.behind
         (links-by ground w (world_after (then_do (way w) state_left_for))
         (ap frame_of (after-then (way w) state_left_for state-left-after) ∙ (pieces_keep_the_frame (routines_in p) (scene_in p set) refl).block b w) e.links)
         (less-to ground (SameLeft ground f set) (SameValue ground f set) _ _ (λ x y v z k. (k.0, k.1)) left-by-both)
@@ -292,18 +293,19 @@ kept-is p reached name piece is = by (is_kept reached name) is
     by false h = absurd (cc)
 
 -- A piece has code at an address, of which a table is right, where these places are hidden.
-record IsAt (p : ProgramTree) (ls : List Link) (c : Code) (hidden : List Places) (lines : List ℕ) (names : List (List ℕ)) (name : Piece) (piece : PieceTree) (places : List (List ℕ)) : Type 0 where
+record IsAt (p : ProgramTree) (ls : List Link) (c : Code) (hidden : List Places) (stale lines : List ℕ) (names : List (List ℕ)) (name : Piece) (piece : PieceTree)
+    (places : List (List ℕ)) : Type 0 where
   pub start : ℕ
   pub flow : Flow
-  pub fine : AreFine (ground_of p ls c places lines names) (set_of piece) flow c.instrs.items
+  pub fine : AreFine (ground_of p ls c places stale lines names) (set_of piece) flow c.instrs.items
   pub free : facts_at flow start ≡ first_facts
   pub at : IsPieceAt p c.instrs.items (entries_of c) start piece
   pub behind : IsBehindPiece p hidden name flow
 
-module _ (p : ProgramTree) (ls : List Link) (c : Code) (hidden : List Places) (lines : List ℕ) (names : List (List ℕ)) (right : AreFlowsOf p ls c hidden lines names) where
+module _ (p : ProgramTree) (ls : List Link) (c : Code) (hidden : List Places) (stale lines : List ℕ) (names : List (List ℕ)) (right : AreFlowsOf p ls c hidden stale lines names) where
   -- each piece has
   is-at : (name : Piece) (piece : PieceTree) (state : ℕ) (places : List (List ℕ)) → kept_piece (holds_in (table_of c)) p name ≡ Some piece → RunsIn hidden name state →
-      IsBetween (places_for hidden (set_of piece)) state (places_of places (set_of piece)) → IsAt p ls c hidden lines names name piece places
+      IsBetween (places_for hidden (set_of piece)) state (places_of places (set_of piece)) → IsAt p ls c hidden stale lines names name piece places
   is-at name piece state places is runs between =
       by (start_in (table_of c) name) refl
       (subst (λ (o : Option PieceTree). IsPlaced p c.instrs.items (entries_of c) o (start_in (table_of c) name)) is (right.code.placed name))
@@ -311,14 +313,14 @@ module _ (p : ProgramTree) (ls : List Link) (c : Code) (hidden : List Places) (l
       set : ℕ
       set = set_of piece
 
-      by : (o : Option ℕ) → start_in (table_of c) name ≡ o → IsPlaced p c.instrs.items (entries_of c) (Some piece) o → IsAt p ls c hidden lines names name piece places
+      by : (o : Option ℕ) → start_in (table_of c) name ≡ o → IsPlaced p c.instrs.items (entries_of c) (Some piece) o → IsAt p ls c hidden stale lines names name piece places
       by None found placed = absurd placed
       by (Some start) found placed =
           let one = right.shown name piece state start (kept-is p (holds_in (table_of c)) name piece is) runs found in
           record {
             start = start;
             flow = one.flow;
-            fine = all-less (ground_of p ls c (all_in hidden state) lines names) places set one.flow
+            fine = all-less (ground_of p ls c (all_in hidden state) stale lines names) places set one.flow
                 (λ k shows. less-open (places_in (places_for hidden set) state) (places_of places set) k (between.high k)
                 (subst (λ (ks : List ℕ). has ks k ≡ false) (all-at hidden state set) shows))
                 (λ k loose. between.low k (one.shown.firm k loose)) c.instrs.items one.shown.fine;
@@ -329,22 +331,22 @@ module _ (p : ProgramTree) (ls : List Link) (c : Code) (hidden : List Places) (l
 
   -- all of them come out alike
   pub each-flows : (name : Piece) (piece : PieceTree) (state : ℕ) (places : List (List ℕ)) → kept_piece (holds_in (table_of c)) p name ≡ Some piece → RunsIn hidden name state →
-      IsBetween (places_for hidden (set_of piece)) state (places_of places (set_of piece)) → PieceFlows (ground_of p ls c places lines names) p piece
+      IsBetween (places_for hidden (set_of piece)) state (places_of places (set_of piece)) → PieceFlows (ground_of p ls c places stale lines names) p piece
   each-flows name piece state places is runs between =
       let one = is-at name piece state places is runs between in
-      piece-flows p ls c places lines names right.code.texts right.named piece one.start one.flow one.fine one.free one.at
+      piece-flows p ls c places stale lines names right.code.texts right.named piece one.start one.flow one.fine one.free one.at
 
   -- behind the block of a clause more is the same, wherever it leads
   pub block-carries : (set state k : ℕ) (x : ClauseTree) (places : List (List ℕ)) → clause_at p set state k ≡ Some x →
       kept_piece (holds_in (table_of c)) p (Block set state k) ≡ Some (Action set x.block) → IsBetween (places_for hidden set) state (places_of places set) → (w u : World) →
-      IsAlike (ground_of p ls c places lines names) w u →
+      IsAlike (ground_of p ls c places stale lines names) w u →
       HoldsBehind (λ left. GoesTo (CarriesOver hidden set state) (target_by left (target_of (scene_in p set).here.states x.target)))
       (then_do (block_effect (scene_in p set) x.block w) state_left_for) (then_do (block_effect (scene_in p set) x.block u) state_left_for)
   block-carries set state k x places clause is between w u e =
       let one = is-at (Block set state k) (Action set x.block) state places is refl between in
       carried hidden set state (target_of (scene_in p set).here.states x.target) one.flow (one.behind x clause) _ _
-      (action-behind p ls c places lines names right.code.texts right.named set x.block one.start one.flow one.fine one.free one.at w u e)
+      (action-behind p ls c places stale lines names right.code.texts right.named set x.block one.start one.flow one.fine one.free one.at w u e)
 
 -- the law
 pub pieces_flow : PiecesFlow
-pieces_flow p ls c hidden lines names right name piece state places is runs between = each-flows p ls c hidden lines names right name piece state places is runs between
+pieces_flow p ls c hidden stale lines names right name piece state places is runs between = each-flows p ls c hidden stale lines names right name piece state places is runs between

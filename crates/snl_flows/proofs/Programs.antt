@@ -1,5 +1,5 @@
 -- Where the pieces of a program come out alike, each in its states, so do its clauses, states and state sets, without those that no run can come to.
-use Rattle.std.proofs.Common.{◌≡◌, ◌∙◌, ◌⊎◌, ◌+◌, ◌≤◌, ◌<◌, inl, inr, sym, ap, subst, refl, arith, ℕ, suc, Bool, true, false, List, [], ◌∷◌, ◌++◌, Option, None, Some, length, map, if◌then◌else◌}
+use Rattle.std.proofs.Common.{◌≡◌, ◌∙◌, ◌⊎◌, ◌+◌, ◌≤◌, ◌<◌, inl, inr, sym, ap, subst, refl, arith, ℕ, suc, ℤ, Bool, true, false, List, [], ◌∷◌, ◌++◌, Option, None, Some, length, map, if◌then◌else◌}
 use Rattle.std.specs.Prelude.{slice_get, option_and_then, option_map}
 use Rattle.std.proofs.lemmas.List.{append-nil}
 use Rattle.snl_channels.specs.Links.{Link}
@@ -18,7 +18,7 @@ use Rattle.snl_schedule.specs.Turn.{target_by}
 use Rattle.snl_syntax.specs.Expressions.{ExprTree}
 use Rattle.snl_syntax.specs.Programs.{ClauseTree, ProgramTree, StateTree, StateSetTree}
 use Rattle.snl_syntax.specs.Statements.{BlockTree}
-use Rattle.snl_alike.specs.Runs.{ClausesAgree, GoesTo, HoldsBehind, ProgramAgrees, SetsAgree, StateAgrees, StatesAgree}
+use Rattle.snl_alike.specs.Runs.{ClausesAgree, GoesTo, HoldsBehind, ProgramAgrees, ReceiveAlike, SetsAgree, StateAgrees, StatesAgree}
 use Rattle.snl_alike.specs.TwoRuns.{Agrees, Alike, BothGive, BothFault, FirstLeftOut, SecondLeftOut}
 
 -- A piece is one of a state.
@@ -193,9 +193,11 @@ module _ (X : Fault → ℕ → Type 0) (T : List ℕ → List ℕ → Type 0) (
           )
 
       -- a program
-      pub program-agrees : (ls : List Link) (waits : Bool) → ProgramAgrees X E In Leaves T (length p.state_sets) (only_reached reached (program_meaning p ls waits))
-      program-agrees ls waits = record {
+      pub program-agrees : (Comes : (channel : ℕ) → List ℤ → Type 0) (ls : List Link) (waits : Bool) → ReceiveAlike Comes E (only_reached reached (program_meaning p ls waits)).links →
+          ProgramAgrees X Comes E In Leaves T (length p.state_sets) (only_reached reached (program_meaning p ls waits))
+      program-agrees Comes ls waits received = record {
         entry = block-agrees E p 0 p.entry (λ b is. all.own b (inl is));
         exit = block-agrees E p 0 p.exit (λ b is. all.own b (inr is));
         sets_agree = sets-agree 0 p.state_sets (λ i. ap (slice_get p.state_sets) (omega arith)) (omega arith);
+        receives = received;
       }

@@ -87,7 +87,7 @@ module _ (g : Ground) (f : Flow) (c : PieceContext) (code-of : IsOfGround g c) (
 
   -- on to an address, with nothing done
   on-to : (at to : ℕ) (new : List ℤ) (w : World) → at < to → to ≤ join → base + length new ≡ height_at f to → Through at w (Gives (GoesTo to (new ++ lower)) w [])
-  on-to at to new w far near many = Passed to new w [] far near many (same-self g.hidden c.set (Firm f) w) NoPrint
+  on-to at to new w far near many = Passed to new w [] far near many (same-self g c.set (Firm f) w) NoPrint
 
   -- ---- operands of the part
 
@@ -142,7 +142,7 @@ module _ (g : Ground) (f : Flow) (c : PieceContext) (code-of : IsOfGround g c) (
 
       by : (b : Bool) → Through at w (if b then with_room c.room (drop n (new ++ lower)) w (Gives (GoesTo (at + 1) (pos 0 ∷ drop n (new ++ lower))) w (line ++ [])) else Gives Sticks w [])
       by true = roomy at (drop n (new ++ lower)) w _ (subst (λ (s : List ℤ). Through at w (Gives (GoesTo (at + 1) (pos 0 ∷ s)) w (line ++ []))) (sym (drop-joined n new low))
-          (Passed (at + 1) (pos 0 ∷ drop n new) w (line ++ []) next stays.within many (same-self g.hidden c.set (Firm f) w) told))
+          (Passed (at + 1) (pos 0 ∷ drop n new) w (line ++ []) next stays.within many (same-self g c.set (Firm f) w) told))
       by false = Sticking w []
 
   -- ---- instructions
@@ -229,7 +229,7 @@ module _ (g : Ground) (f : Flow) (c : PieceContext) (code-of : IsOfGround g c) (
         joined : (r : Ran Exit) → Comes n v r → Comes (suc n) w (also text r)
         joined _ (Arrived m others u more low so going said) =
             subst (Comes (suc n) w) (sym (also-also text more (exec code m c join (others ++ lower) u)))
-            (Arrived m others u (text ++ more) (omega (arith, low)) so (same-joined g.hidden c.set (Firm f) w v u still going) (prints-joined g.names text more told said))
+            (Arrived m others u (text ++ more) (omega (arith, low)) so (same-joined g c.set (Firm f) w v u still going) (prints-joined g.names text more told said))
         joined _ (FailedThere fault line u more left) = FailedThere fault line u (text ++ more) left
     arrives-behind n at w _ (Sticking v text) past k over = absurd over
     arrives-behind n at w _ (Failing fault line v text left) past k over = FailedThere fault line v text left
@@ -239,7 +239,7 @@ module _ (g : Ground) (f : Flow) (c : PieceContext) (code-of : IsOfGround g c) (
     at-end n at new w many is =
         subst (λ (k : ℕ). Comes n w (exec code n c k (new ++ lower) w)) (sym is)
         (subst (Comes n w) (also-none (exec code n c join (new ++ lower) w))
-        (Arrived n new w [] (omega arith) (many ∙ ap (height_at f) is) (same-self g.hidden c.set (Firm f) w) NoPrint))
+        (Arrived n new w [] (omega arith) (many ∙ ap (height_at f) is) (same-self g c.set (Firm f) w) NoPrint))
 
     -- from an address of the part on, where that is so of where its step leads
     arrives-at : (n at : ℕ) (new : List ℤ) (w : World) → from < at → at ≤ join → base + length new ≡ height_at f at →

@@ -1,11 +1,11 @@
 -- What a run of code does from two worlds that are the same outside, where a table is right of the code.
-use Rattle.std.proofs.Common.{◌≡◌, ◌∙◌, ◌*◌, ◌+◌, ◌-◌, ◌≤◌, ◌<◌, inl, inr, ⊎_elim, refl, sym, ap, subst, arith, ℕ, zero, suc, ℤ, Bool, true, false, List, [], ◌∷◌, ◌++◌, Option, None, Some, length, if◌then◌else◌}
+use Rattle.std.proofs.Common.{◌≡◌, ◌∙◌, ◌*◌, ◌+◌, ◌-◌, ◌≤◌, ◌<◌, inl, inr, ⊎_elim, refl, sym, ap, subst, arith, ℕ, zero, suc, ℤ, Bool, true, false, List, [], ◌∷◌, ◌++◌, Option, None, Some, length, map, if◌then◌else◌}
 use Rattle.std.specs.Prelude.{slice_get}
 use Rattle.std.proofs.lemmas.List.{length-map}
 use Rattle.snl_arithmetic.specs.Arithmetic.{is_zero}
 use Rattle.snl_meaning.specs.declared.instrs.Instr.{Instr}
 use Rattle.snl_meaning.specs.declared.instrs.Instr.TheVariants.{JumpIfZero}
-use Rattle.snl_meaning.specs.Frames.{Frame, frame_of}
+use Rattle.snl_meaning.specs.Frames.{Frame, frame_of, room_in}
 use Rattle.snl_meaning.specs.Keeping.{world_after}
 use Rattle.snl_meaning.specs.Ran.{Ran, also, then_do}
 use Rattle.snl_meaning.specs.Run.{PieceContext, with_returns, Step, done_by, step_of, Exit, Over, LeftFor, from_there, exec, credit, run_of}
@@ -34,7 +34,7 @@ KnownBehind f set _ w u = ⊥
 
 -- Two runs come to the same exit, and their worlds are the same outside, and at words of which the table says so.
 abbrev pub Ends : Ground → Flow → (set : ℕ) → Exit → Exit → World → World → Type 0
-Ends g f set x y w u = (x ≡ y) × IsSameOutside g.hidden w u × KnownBehind f set x w u
+Ends g f set x y w u = (x ≡ y) × IsSameOutside g.hidden g.stale w u × KnownBehind f set x w u
 
 -- a world with the frame of another one has as many copies
 pub many-by : (w v : World) → frame_of v ≡ frame_of w → length v.copies ≡ length w.copies
@@ -68,6 +68,7 @@ module _ (g : Ground) (f : Flow) (set : ℕ) (code : List Instr) (fine : AreFine
     channels = ap (λ (r : Frame). r.channels) same ∙ links.channels;
     ties = ap (λ (r : Frame). r.ties) same ∙ links.ties;
     homes = ap (λ (r : Frame). r.homes) same ∙ links.homes;
+    rooms = ap (λ (r : Frame). r.queues) same ∙ links.rooms;
     many = many-by w v same ∙ links.many;
   }
 
@@ -77,6 +78,7 @@ module _ (g : Ground) (f : Flow) (set : ℕ) (code : List Instr) (fine : AreFine
     channels = sym (ap (λ (x : World). x.channels) still.same) ∙ links.channels;
     ties = sym (ap (λ (x : World). x.ties) still.same) ∙ links.ties;
     homes = sym (ap (λ (x : World). x.homes) still.same) ∙ links.homes;
+    rooms = sym (ap (λ (x : World). map room_in x.queues) still.same) ∙ links.rooms;
     many = sym still.count ∙ links.many;
   }
 
@@ -84,14 +86,14 @@ module _ (g : Ground) (f : Flow) (set : ℕ) (code : List Instr) (fine : AreFine
 
   -- an instruction that does the same in both
   step-alike : (c : PieceContext) → c.set ≡ set → IsOfGround g c → AreBack f c.returns → (i : Instr) (at : ℕ) → IsFineAt g set f at i → (s t : List ℤ) (w u : World) → HasLinks g w →
-      HoldOf (facts_at f at).operands s t → SameOn g.hidden set (Here f (at ∷ c.returns)) w u →
+      HoldOf (facts_at f at).operands s t → SameOn g set (Here f (at ∷ c.returns)) w u →
       AlikeTo g (λ x y v z. After g set f c.returns x y v z × HasLinks g v) (done_by c i at s w) (done_by c i at t u)
   step-alike c is same backs i at right s t w u links h e =
       subst (λ (n : ℕ). AlikeTo g (λ x y v z. After g n f c.returns x y v z × HasLinks g v) (done_by c i at s w) (done_by c i at t u)) is
       (left-to g (After g c.set f c.returns) (HasLinks g) (done_by c i at s w) (done_by c i at t u)
       (links-stay w (world_after (done_by c i at s w)) (steps_keep_the_frame c i at s w) links)
       (done-alike g f c i at s t w u links backs same
-      (subst (λ (n : ℕ). IsFineAt g n f at i) (sym is) right) h (subst (λ (n : ℕ). SameOn g.hidden n (Here f (at ∷ c.returns)) w u) (sym is) e)))
+      (subst (λ (n : ℕ). IsFineAt g n f at i) (sym is) right) h (subst (λ (n : ℕ). SameOn g n (Here f (at ∷ c.returns)) w u) (sym is) e)))
 
   -- ---- a jump of which it does not matter where it leads
 
@@ -135,16 +137,16 @@ module _ (g : Ground) (f : Flow) (set : ℕ) (code : List Instr) (fine : AreFine
         by false ends = arrives g f c same base join s code at ways.inside each n (at + 1) [] w (omega arith) ways.near none ends
 
     -- the worlds behind both ways
-    worlds-meet : (w u v x : World) → SameOn g.hidden set (Here f (at ∷ c.returns)) w u → Still g f c.set w v → Still g f c.set u x → SameOn g.hidden set (Here f (join ∷ c.returns)) v x
+    worlds-meet : (w u v x : World) → SameOn g set (Here f (at ∷ c.returns)) w u → Still g f c.set w v → Still g f c.set u x → SameOn g set (Here f (join ∷ c.returns)) v x
     worlds-meet w u v x e still other =
-        same-joined g.hidden set K v w x (same-back g.hidden set K w v (own w v still)) (same-joined g.hidden set K w u x
-        (same-less g.hidden set (Here f (at ∷ c.returns)) K w u (λ b k known. (known.0, ⊎_elim (λ said. inl (ways.leads.2 b k said)) (λ others. inr others) known.1)) e) (own u x other))
+        same-joined g set K v w x (same-back g set K w v (own w v still)) (same-joined g set K w u x
+        (same-less g set (Here f (at ∷ c.returns)) K w u (λ b k known. (known.0, ⊎_elim (λ said. inl (ways.leads.2 b k said)) (λ others. inr others) known.1)) e) (own u x other))
       where
         K : Bool → ℕ → Type 0
         K = Here f (join ∷ c.returns)
 
-        own : (y z : World) → Still g f c.set y z → SameOn g.hidden set K y z
-        own y z h = same-less g.hidden set (Firm f) K y z (λ b k known. known.0) (subst (λ (n : ℕ). SameOn g.hidden n (Firm f) y z) is h)
+        own : (y z : World) → Still g f c.set y z → SameOn g set K y z
+        own y z h = same-less g set (Firm f) K y z (λ b k known. known.0) (subst (λ (n : ℕ). SameOn g n (Firm f) y z) is h)
 
     -- the operands
     operands-meet : (xs ys s t : List ℤ) → base + length xs ≡ height_at f join → base + length ys ≡ height_at f join → HoldOf (below (facts_at f at).operands) s t →
@@ -156,23 +158,23 @@ module _ (g : Ground) (f : Flow) (set : ℕ) (code : List Instr) (fine : AreFine
 
     -- What is claimed of both runs from where the ways come together.
     abbrev FromJoin : ℕ → Type 0
-    FromJoin size = (n m : ℕ) (s t : List ℤ) (w u : World) → n ≤ size → HasLinks g w → HoldOf (facts_at f join).operands s t → SameOn g.hidden set (Here f (join ∷ c.returns)) w u →
+    FromJoin size = (n m : ℕ) (s t : List ℤ) (w u : World) → n ≤ size → HasLinks g w → HoldOf (facts_at f join).operands s t → SameOn g set (Here f (join ∷ c.returns)) w u →
         IsOver (exec code n c join s w) → IsOver (exec code m c join t u) → AlikeTo g (Ends g f set) (exec code n c join s w) (exec code m c join t u)
 
     -- both runs of the ways
     ways-meet : (size n m : ℕ) (s t : List ℤ) (w u : World) (r q : Ran Exit) → n ≤ size → FromJoin size → HasLinks g w → HoldOf (below (facts_at f at).operands) s t →
-        SameOn g.hidden set (Here f (at ∷ c.returns)) w u → Arriving s n w r → Arriving t m u q → IsOver r → IsOver q → AlikeTo g (Ends g f set) r q
+        SameOn g set (Here f (at ∷ c.returns)) w u → Arriving s n w r → Arriving t m u q → IsOver r → IsOver q → AlikeTo g (Ends g f set) r q
     ways-meet size n m s t w u _ q low go links h e (FailedThere fault line v text left) second over ends = FirstStops fault line v text q left
     ways-meet size n m s t w u _ _ low go links h e (Arrived k xs v a short p still told) (FailedThere fault line x b left) over ends =
         SecondStops fault line x b (also a (exec code k c join (xs ++ s) v)) left
     ways-meet size n m s t w u _ _ low go links h e (Arrived k xs v a short p still told) (Arrived l ys x b near q other more) over ends =
         also-to g (Ends g f set) a b (exec code k c join (xs ++ s) v) (exec code l c join (ys ++ t) x) (prints-same g.names a b told more)
-        (go k l (xs ++ s) (ys ++ t) v x (omega (arith, short, low)) (links-still w v (subst (λ (i : ℕ). SameOn g.hidden i (Firm f) w v) is still) links) (operands-meet xs ys s t p q h)
+        (go k l (xs ++ s) (ys ++ t) v x (omega (arith, short, low)) (links-still w v (subst (λ (i : ℕ). SameOn g i (Firm f) w v) is still) links) (operands-meet xs ys s t p q h)
         (worlds-meet w u v x e still other) (over-also a (exec code k c join (xs ++ s) v) over) (over-also b (exec code l c join (ys ++ t) x) ends))
 
     -- both runs from the jump on
     jumps-alike : (size n m : ℕ) (s t : List ℤ) (w u : World) → n ≤ size → FromJoin size → HasLinks g w → HoldOf (facts_at f at).operands s t →
-        SameOn g.hidden set (Here f (at ∷ c.returns)) w u → IsOver (then_do (done_by c (JumpIfZero passed) at s w) (from_there c (exec code n))) →
+        SameOn g set (Here f (at ∷ c.returns)) w u → IsOver (then_do (done_by c (JumpIfZero passed) at s w) (from_there c (exec code n))) →
         IsOver (then_do (done_by c (JumpIfZero passed) at t u) (from_there c (exec code m))) →
         AlikeTo g (Ends g f set) (then_do (done_by c (JumpIfZero passed) at s w) (from_there c (exec code n))) (then_do (done_by c (JumpIfZero passed) at t u) (from_there c (exec code m)))
     jumps-alike size n m [] t w u low go links h e over ends = absurd over
@@ -188,12 +190,12 @@ module _ (g : Ground) (f : Flow) (set : ℕ) (code : List Instr) (fine : AreFine
   -- What is claimed of runs of at most so many instructions.
   abbrev Claims : ℕ → Type 0
   Claims size = (n m : ℕ) (c : PieceContext) → n ≤ size → c.set ≡ set → IsOfGround g c → AreBack f c.returns → (at : ℕ) (s t : List ℤ) (w u : World) → HasLinks g w →
-      IsReached f at → HoldOf (facts_at f at).operands s t → SameOn g.hidden set (Here f (at ∷ c.returns)) w u → IsOver (exec code n c at s w) → IsOver (exec code m c at t u) →
+      IsReached f at → HoldOf (facts_at f at).operands s t → SameOn g set (Here f (at ∷ c.returns)) w u → IsOver (exec code n c at s w) → IsOver (exec code m c at t u) →
       AlikeTo g (Ends g f set) (exec code n c at s w) (exec code m c at t u)
 
   -- one instruction, and the rest of the runs
   module _ (size : ℕ) (more : Claims size) (n m : ℕ) (c : PieceContext) (low : n ≤ size) (is : c.set ≡ set) (same : IsOfGround g c) (backs : AreBack f c.returns) (at : ℕ)
-      (s t : List ℤ) (w u : World) (links : HasLinks g w) (h : HoldOf (facts_at f at).operands s t) (e : SameOn g.hidden set (Here f (at ∷ c.returns)) w u) where
+      (s t : List ℤ) (w u : World) (links : HasLinks g w) (h : HoldOf (facts_at f at).operands s t) (e : SameOn g set (Here f (at ∷ c.returns)) w u) where
     -- where the steps of both lead
     go : (x y : Step) (a b : World) → After g set f c.returns x y a b → HasLinks g a → IsOver (from_there c (exec code n) x a) → IsOver (from_there c (exec code m) y b) →
         AlikeTo g (Ends g f set) (from_there c (exec code n) x a) (from_there c (exec code m) y b)
@@ -239,11 +241,11 @@ module _ (g : Ground) (f : Flow) (set : ℕ) (code : List Instr) (fine : AreFine
 
   -- a piece, at whose first instruction nothing is said
   pub run-alike : (c : PieceContext) → c.set ≡ set → IsOfGround g c → c.returns ≡ [] → (start : ℕ) → facts_at f start ≡ first_facts → (w u : World) → HasLinks g w →
-      IsSameOutside g.hidden w u → IsOver (run_of c code start w) → IsOver (run_of c code start u) →
+      IsSameOutside g.hidden g.stale w u → IsOver (run_of c code start w) → IsOver (run_of c code start u) →
       AlikeTo g (Ends g f set) (run_of c code start w) (run_of c code start u)
   run-alike c is same none start empty w u links e over ends =
       exec-alike (suc (credit c w) * length code) (suc (credit c w) * length code) (suc (credit c u) * length code) c (omega arith) is same (subst (AreBack f) (sym none) tt) start [] [] w u links
-      (ap (λ (r : Facts). r.is_reached) empty) tt (same-nowhere g.hidden set (Here f (start ∷ c.returns)) w u nothing e) over ends
+      (ap (λ (r : Facts). r.is_reached) empty) tt (same-nowhere g set (Here f (start ∷ c.returns)) w u nothing e) over ends
     where
       nothing : (b : Bool) (k : ℕ) → Here f (start ∷ c.returns) b k → ⊥
       nothing b k here =

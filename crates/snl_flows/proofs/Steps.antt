@@ -47,13 +47,13 @@ AreBack f (at ∷ more) = AreNoMore (facts_at f at).operands (f.given ∷ []) ×
 -- Two steps lead to the same address, with operands and worlds of which the table is right; both end with the same operands, or leave for
 -- the same state, where it says that more is the same; or both stick.
 pub data After (g : Ground) (set : ℕ) (f : Flow) (returns : List ℕ) : Step → Step → World → World → Type 0 where
-  BothGo : (pc : ℕ) (s t : List ℤ) (w u : World) → IsReached f pc → HoldOf (facts_at f pc).operands s t → SameOn g.hidden set (Here f (pc ∷ returns)) w u →
+  BothGo : (pc : ℕ) (s t : List ℤ) (w u : World) → IsReached f pc → HoldOf (facts_at f pc).operands s t → SameOn g set (Here f (pc ∷ returns)) w u →
       After g set f returns (GoesTo pc s) (GoesTo pc t) w u
-  BothGoOver : (others : List ℕ) (pc : ℕ) (s t : List ℤ) (w u : World) → AreBack f others → IsReached f pc → HoldOf (facts_at f pc).operands s t → SameOn g.hidden set (Here f (pc ∷ others)) w u →
+  BothGoOver : (others : List ℕ) (pc : ℕ) (s t : List ℤ) (w u : World) → AreBack f others → IsReached f pc → HoldOf (facts_at f pc).operands s t → SameOn g set (Here f (pc ∷ others)) w u →
       After g set f returns (GoesOver others pc s) (GoesOver others pc t) w u
-  BothEnd : (s : List ℤ) (w u : World) → IsSameOutside g.hidden w u → AreSameAt set f.ends w u → After g set f returns (EndsWith s) (EndsWith s) w u
-  BothLeave : (state : ℕ) (w u : World) → IsSameOutside g.hidden w u → AreSameAt set f.leaves w u → After g set f returns (LeavesFor state) (LeavesFor state) w u
-  BothStick : (w u : World) → IsSameOutside g.hidden w u → After g set f returns Sticks Sticks w u
+  BothEnd : (s : List ℤ) (w u : World) → IsSameOutside g.hidden g.stale w u → AreSameAt set f.ends w u → After g set f returns (EndsWith s) (EndsWith s) w u
+  BothLeave : (state : ℕ) (w u : World) → IsSameOutside g.hidden g.stale w u → AreSameAt set f.leaves w u → After g set f returns (LeavesFor state) (LeavesFor state) w u
+  BothStick : (w u : World) → IsSameOutside g.hidden g.stale w u → After g set f returns Sticks Sticks w u
 
 -- a subscript that passes the check is below the size
 in-size : (size : ℕ) (k : ℤ) → is_subscript size k ≡ true → natural k < size
@@ -71,7 +71,7 @@ module _ (g : Ground) (f : Flow) (c : PieceContext) where
 
   -- two worlds at an address
   abbrev pub At : ℕ → World → World → Type 0
-  At at = SameOn g.hidden c.set (K at)
+  At at = SameOn g c.set (K at)
 
   -- where steps lead
   abbrev pub Next : Step → Step → World → World → Type 0
@@ -88,19 +88,19 @@ module _ (g : Ground) (f : Flow) (c : PieceContext) where
       AlikeTo g Next (Gives (GoesTo to s) w []) (Gives (GoesTo to t) u [])
   led at to holds s t w u leads h e =
       lead g Next _ _ w u (BothGo to s t w u leads.1 (no-more-of s t (ops to) holds leads.0 h)
-      (same-less g.hidden c.set (K at) (K to) w u (λ b k known. (known.0, ⊎_elim (λ said. inl (leads.2 b k said)) (λ others. inr others) known.1)) e))
+      (same-less g c.set (K at) (K to) w u (λ b k known. (known.0, ⊎_elim (λ said. inl (leads.2 b k said)) (λ others. inr others) known.1)) e))
 
   -- but for what was written
   pub led-after : (at to : ℕ) (holds : List Operand) (W : Bool → ℕ → Type 0) (s t : List ℤ) (w u : World) → LeadsAfter g c.set f at to holds W → HoldOf holds s t →
-      SameOn g.hidden c.set (With (K at) W) w u → AlikeTo g Next (Gives (GoesTo to s) w []) (Gives (GoesTo to t) u [])
+      SameOn g c.set (With (K at) W) w u → AlikeTo g Next (Gives (GoesTo to s) w []) (Gives (GoesTo to t) u [])
   led-after at to holds W s t w u leads h e =
       lead g Next _ _ w u (BothGo to s t w u leads.1 (no-more-of s t (ops to) holds leads.0 h)
-      (same-less g.hidden c.set (With (K at) W) (K to) w u
+      (same-less g c.set (With (K at) W) (K to) w u
       (λ b k known. ⊎_elim (λ said. ⊎_elim (λ before. inl (known.0, inl before)) (λ now. inr now) (leads.2 b k said)) (λ others. inl (known.0, inr others)) known.1) e))
 
   -- it sticks
   pub stuck : (at : ℕ) (w u : World) → At at w u → AlikeTo g Next (Gives Sticks w []) (Gives Sticks u [])
-  stuck at w u e = lead g Next Sticks Sticks w u (BothStick w u (same-outside g.hidden c.set (K at) w u e))
+  stuck at w u e = lead g Next Sticks Sticks w u (BothStick w u (same-outside g c.set (K at) w u e))
 
   -- on with a value on top
   pub on : (at to : ℕ) (o : Operand) (os : List Operand) (s t : List ℤ) (r r' : Ran ℤ) → LeadsTo g c.set f at to (o ∷ os) → HoldOf os s t → AlikeTo g (Holds at o) r r' →
@@ -155,11 +155,11 @@ module _ (g : Ground) (f : Flow) (c : PieceContext) where
   -- ---- what is known at an address
 
   -- a word that is the same there
-  pub known : (at : ℕ) (b : Bool) (k : ℕ) → IsSameAt g c.set f at b k → Known g.hidden c.set (K at) b k
+  pub known : (at : ℕ) (b : Bool) (k : ℕ) → IsSameAt g c.set f at b k → Known g c.set (K at) b k
   known at b k same = ⊎_elim (λ seen. inl seen) (λ both. inr (both.1, inl both.0)) same
 
   -- one that may differ is no other one
-  pub apart : (at : ℕ) (b : Bool) (place : ℕ) → MayDiffer (places_of g.hidden c.set) f b place → (j : ℕ) → Known g.hidden c.set (K at) b j → j ≡ place → ⊥
+  pub apart : (at : ℕ) (b : Bool) (place : ℕ) → MayDiffer (places_of g.hidden c.set) f b place → (j : ℕ) → Known g c.set (K at) b j → j ≡ place → ⊥
   apart at b place may j here is =
       ⊎_elim (λ (seen : IsOpen (places_of g.hidden c.set) b j). may.hides (subst (IsOpen (places_of g.hidden c.set) b) is seen))
       (λ (more : K at b j). let p : is_loose f b place ≡ true = may.loose in let q : is_loose f b j ≡ false = more.0 in
@@ -217,7 +217,7 @@ module _ (g : Ground) (f : Flow) (c : PieceContext) where
       (same-of (top_of (below (ops at))) k k' fine.1 next)
       (on at (at + 1) (top_of (ops at)) (below (below (ops at))) s' t' (stored c.set v line k z w) (stored c.set v line k z' u) fine.2 rest
       (less-to g (Grows g c.set (K at) (IsElement v (natural k)) (top_of (ops at))) (Holds at (top_of (ops at))) (stored c.set v line k z w) (stored c.set v line k z' u)
-      (λ a b p q more. (more.0, same-less g.hidden c.set (With (K at) (IsElement v (natural k))) (K at) p q (λ d j m. inl m) more.1))
+      (λ a b p q more. (more.0, same-less g c.set (With (K at) (IsElement v (natural k))) (K at) p q (λ d j m. inl m) more.1))
       (stored-to g c.set (K at) (top_of (ops at)) v line k z z' w u fine.0 top e))))
 
   -- the check of a subscript
@@ -227,7 +227,7 @@ module _ (g : Ground) (f : Flow) (c : PieceContext) where
       by : (b : Bool) → is_subscript v.size k ≡ b → AlikeTo g (Holds at (Within v.size)) (if b then Gives k w [] else Faults OutOfRange line w [])
           (if b then Gives k u [] else Faults OutOfRange line u [])
       by true is = lead g (Holds at (Within v.size)) k k w u ((refl, in-size v.size k is), e)
-      by false is = stop g (Holds at (Within v.size)) OutOfRange line w u (same-outside g.hidden c.set (K at) w u e)
+      by false is = stop g (Holds at (Within v.size)) OutOfRange line w u (same-outside g c.set (K at) w u e)
 
   -- a jump by a condition
   pub jumped : (at n : ℕ) (os : List Operand) (z : ℤ) (s t : List ℤ) (w u : World) → LeadsTo g c.set f at (at + 1) os → LeadsTo g c.set f at (at + 1 + n) os → HoldOf os s t → At at w u →
@@ -254,12 +254,12 @@ module _ (g : Ground) (f : Flow) (c : PieceContext) where
 
   -- a return
   pub returned : (returns : List ℕ) (at : ℕ) (s t : List ℤ) (w u : World) → IsNoMore f.given (top_of (ops at)) × AreAllSame (below (ops at)) → AreBack f returns → HoldOf (ops at) s t →
-      SameOn g.hidden c.set (Here f (at ∷ returns)) w u → AlikeTo g Next (returns_to returns s w) (returns_to returns t u)
-  returned [] at s t w u all backs h e = lead g Next Sticks Sticks w u (BothStick w u (same-outside g.hidden c.set (Here f (at ∷ [])) w u e))
+      SameOn g c.set (Here f (at ∷ returns)) w u → AlikeTo g Next (returns_to returns s w) (returns_to returns t u)
+  returned [] at s t w u all backs h e = lead g Next Sticks Sticks w u (BothStick w u (same-outside g c.set (Here f (at ∷ [])) w u e))
   returned (back ∷ returns) at s t w u all backs h e =
       lead g Next _ _ w u (BothGoOver returns back s t w u backs.2 backs.1
       (no-more-of s t (ops back) (f.given ∷ []) backs.0 (given-holds f.given s t (ops at) all.0 all.1 h))
-      (same-less g.hidden c.set (Here f (at ∷ back ∷ returns)) (Here f (back ∷ returns)) w u (λ b k said. (said.0, inr said.1)) e))
+      (same-less g c.set (Here f (at ∷ back ∷ returns)) (Here f (back ∷ returns)) w u (λ b k said. (said.0, inr said.1)) e))
 
   -- a call
   module _ (x : Entry) (n line at : ℕ) (s t : List ℤ) (w u : World) (backs : AreBack f c.returns) (taken : AreTaken g c.set f x.parameters n (ops at) line) (all : AreAllSame (under n (ops at)))
@@ -273,9 +273,9 @@ module _ (g : Ground) (f : Flow) (c : PieceContext) where
     same-below = all-same (drop n s) (drop n t) (under n (ops at)) all (under-of n s t (ops at) h)
 
     -- what is known where the function begins
-    entered : (p q : World) → SameOn g.hidden c.set (With (K at) (Bound g f c.set x.parameters n)) p q → SameOn g.hidden c.set (Here f (x.start ∷ others)) p q
+    entered : (p q : World) → SameOn g c.set (With (K at) (Bound g f c.set x.parameters n)) p q → SameOn g c.set (Here f (x.start ∷ others)) p q
     entered p q known =
-        same-less g.hidden c.set (With (K at) (Bound g f c.set x.parameters n)) (Here f (x.start ∷ others)) p q
+        same-less g c.set (With (K at) (Bound g f c.set x.parameters n)) (Here f (x.start ∷ others)) p q
         (λ b k said. ⊎_elim (λ here. inr (begins.2 b k here, said.0))
         (λ (more : IsSaidAt f others b k). inl (said.0, ⊎_elim (λ back. inl (leads.2 b k back)) (λ later. inr later) more)) said.1) known
 

@@ -24,7 +24,7 @@ With K W b k = K b k ⊎ W b k
 module _ (g : Ground) (set : ℕ) (K : Bool → ℕ → Type 0) where
   -- two worlds
   abbrev pub On : (Bool → ℕ → Type 0) → World → World → Type 0
-  On L = SameOn g.hidden set L
+  On L = SameOn g set L
 
   -- two values, of which something is known, and two worlds
   abbrev pub Stays : Operand → ℤ → ℤ → World → World → Type 0
@@ -36,11 +36,11 @@ module _ (g : Ground) (set : ℕ) (K : Bool → ℕ → Type 0) where
 
   -- what is known of the words where a variable stands
   abbrev pub There : Bool → ℕ → Type 0
-  There = Known g.hidden set K
+  There = Known g set K
 
   -- a word that is known
   word-same : (b : Bool) (place : ℕ) (w u : World) → There b place → On K w u → slice_index_or (words_for set b w) place (pos 0) ≡ slice_index_or (words_for set b u) place (pos 0)
-  word-same b place w u known e = (words-agree g.hidden set K b w u e).at place known
+  word-same b place w u known e = (words-agree g set K b w u e).at place known
 
   -- a read of it
   pub read-to : (v : Variable) (k : ℤ) (w u : World) → There v.is_shared (v.place + natural k) → On K w u → AlikeTo g (Stays Same) (read set v k w) (read set v k u)
@@ -62,8 +62,8 @@ module _ (g : Ground) (set : ℕ) (K : Bool → ℕ → Type 0) where
   written : (W : Bool → ℕ → Type 0) (b : Bool) (xs ys : List ℤ) (w u : World) → ((c : Bool) (k : ℕ) → W c k → c ≡ b) → AgreeOn (λ k. There b k ⊎ W b k) xs ys → On K w u →
       On (With K W) (with_words_for set b xs w) (with_words_for set b ys u)
   written W b xs ys w u only new e =
-      words-change g.hidden set K (With K W) b xs ys w u (others W b only)
-      (agree-less (λ k. There b k ⊎ W b k) (Known g.hidden set (With K W) b) xs ys
+      words-change g set K (With K W) b xs ys w u (others W b only)
+      (agree-less (λ k. There b k ⊎ W b k) (Known g set (With K W) b) xs ys
       (λ k known. ⊎_elim (λ seen. inl (inl seen)) (λ (more : With K W b k). ⊎_elim (λ p. inl (inr p)) (λ p. inr p) more) known) new) e
 
   -- a store of the same
@@ -73,7 +73,7 @@ module _ (g : Ground) (set : ℕ) (K : Bool → ℕ → Type 0) where
       subst (λ (x : ℤ). AlikeTo g (Grows W o) (stored set v line k y w) (stored set v line k x u)) (same-of o y z is h)
       (test-to g (Grows W o) (int_le v.least y && int_le y v.greatest) _ _ _ _
       (lead g (Grows W o) y y _ _ (subst (HoldsOf o y) (sym (same-of o y z is h)) h, written W b _ _ w u (λ c j p. p.0) new e))
-      (stop g (Grows W o) DoesNotFit line w u (same-outside g.hidden set K w u e)))
+      (stop g (Grows W o) DoesNotFit line w u (same-outside g set K w u e)))
     where
       W : Bool → ℕ → Type 0
       W = IsElement v (natural k)
@@ -86,7 +86,7 @@ module _ (g : Ground) (set : ℕ) (K : Bool → ℕ → Type 0) where
 
       new : AgreeOn (λ j. There b j ⊎ W b j) (slice_set (words_for set b w) place y) (slice_set (words_for set b u) place y)
       new = agree-less (λ j. There b j ⊎ (j ≡ place)) (λ j. There b j ⊎ W b j) _ _ (λ j known. ⊎_elim (λ p. inl p) (λ (p : W b j). inr p.1) known)
-          (agree-set (There b) (words_for set b w) (words_for set b u) place y (words-agree g.hidden set K b w u e))
+          (agree-set (There b) (words_for set b w) (words_for set b u) place y (words-agree g set K b w u e))
 
   -- a store of another one, where nothing is known
   pub stored-other : (o : Operand) (v : Variable) (line : ℕ) (k y z : ℤ) (w u : World) → HoldsOf o y z → has g.lines line ≡ true →
@@ -106,7 +106,7 @@ module _ (g : Ground) (set : ℕ) (K : Bool → ℕ → Type 0) where
       t = with_words_for set b (slice_set (words_for set b u) place z) u
 
       changed : On K x t
-      changed = words-change g.hidden set K K b _ _ w u (λ j p. p) (agree-apart (There b) _ _ place y z apart (words-agree g.hidden set K b w u e)) e
+      changed = words-change g set K K b _ _ w u (λ j p. p) (agree-apart (There b) _ _ place y z apart (words-agree g set K b w u e)) e
 
       by : (c d : Bool) → AlikeTo g (Stays o) (if c then Gives y x [] else Faults DoesNotFit line w []) (if d then Gives z t [] else Faults DoesNotFit line u [])
       by true true = lead g (Stays o) y z x t (h, changed)
@@ -125,7 +125,7 @@ module _ (g : Ground) (set : ℕ) (K : Bool → ℕ → Type 0) where
       (outcome-to g set K op_line (computed op old (pos 1)) w u e)
       (λ y z x t h. then-to g (Grows W Same) (Stays Same) (stored set v line k y x) (stored set v line k z t) _ _ (stored-to Same v line k y z x t tt h.0 h.1)
       (λ a c p q more. lead g (Stays Same) (if is_before then old else y) (if is_before then old else z) p q
-      (chosen is_before old y z h.0, same-less g.hidden set (With K W) K p q (λ c j p. inl p) more.1))))
+      (chosen is_before old y z h.0, same-less g set (With K W) K p q (λ c j p. inl p) more.1))))
     where
       chosen : (c : Bool) (old y z : ℤ) → y ≡ z → (if c then old else y) ≡ (if c then old else z)
       chosen true old y z same = refl
@@ -150,4 +150,4 @@ module _ (g : Ground) (set : ℕ) (K : Bool → ℕ → Type 0) where
       (written (IsAnyElement v) v.is_shared _ _ w u (λ c j p. p.0)
       (agree-less (λ j. There v.is_shared j ⊎ ((v.place ≤ j) × (j < v.place + v.size))) (λ j. There v.is_shared j ⊎ IsAnyElement v v.is_shared j) _ _
       (λ j known. ⊎_elim (λ p. inl p) (λ (p : IsAnyElement v v.is_shared j). inr (p.1, p.2)) known)
-      (agree-zeroed v.size (There v.is_shared) (words_for set v.is_shared w) (words_for set v.is_shared u) v.place (words-agree g.hidden set K v.is_shared w u e))) e)
+      (agree-zeroed v.size (There v.is_shared) (words_for set v.is_shared w) (words_for set v.is_shared u) v.place (words-agree g set K v.is_shared w u e))) e)

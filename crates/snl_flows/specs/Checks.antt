@@ -11,6 +11,8 @@ use Rattle.snl_meaning.specs.Links.{link_from}
 use Rattle.snl_meaning.specs.Names.{format_text}
 use Rattle.snl_meaning.specs.Run.{Entry}
 use Rattle.snl_meaning.specs.Words.{element_place}
+use Rattle.snl_names.specs.declared.builtins.Query.{Query}
+use Rattle.snl_names.specs.declared.builtins.Query.TheVariants.{PvGet}
 use Rattle.snl_flows.specs.Fine.{settled_of}
 use Rattle.snl_flows.specs.Outside.{has, places_of}
 use Rattle.snl_flows.specs.Tables.{Operand, Another, Same, Within, top_of, below, under, Flow, Ground, facts_at, is_loose, said_at}
@@ -186,6 +188,48 @@ module _ (g : Ground) (set : ℕ) (f : Flow) where
   are_put_by at v (Within size) = are_put at v 0 size
   are_put_by at v _ = false
 
+  -- ---- what is got
+
+  -- Whether so many words from a place on may get what is not the same where those of a buffer may differ,
+  abbrev pub is_got_from : (place from count : ℕ) → Bool
+  is_got_from place from zero = true
+  is_got_from place from (suc count) = (not (has g.stale from) || (has f.loose place && has hidden_here place)) && is_got_from (suc place) (suc from) count
+
+  -- and those of a link, if there is one,
+  abbrev pub is_got_at : (place : ℕ) → Option Tied → Bool
+  is_got_at place None = true
+  is_got_at place (Some t) = is_got_from place t.from t.count
+
+  -- by its number,
+  abbrev pub is_got_of : (place : ℕ) → Option ℕ → Bool
+  is_got_of place None = true
+  is_got_of place (Some link) = is_got_at place (slice_get g.ties link)
+
+  -- and of that which begins at a place.
+  abbrev pub is_got : (place : ℕ) → Bool
+  is_got place = is_got_of place (link_from 0 (slice_index_or g.homes set []) place)
+
+  -- So it is of so many elements of a variable.
+  abbrev pub are_got : Variable → (element many : ℕ) → Bool
+  are_got v element zero = true
+  are_got v element (suc many) = is_got (element_place v element) && are_got v (suc element) many
+
+  -- Whether it is so of the first element, if that is what is asked for,
+  abbrev pub is_got_by : Query → Variable → Bool
+  is_got_by PvGet v = is_got v.place
+  is_got_by _ v = true
+
+  -- and of each element that a subscript can name, which was checked. Where no buffer may differ nothing is asked.
+  abbrev pub are_got_within : Variable → Operand → List ℕ → Bool
+  are_got_within v o [] = true
+  are_got_within v (Within size) (s ∷ stale) = are_got v 0 size
+  are_got_within v o (s ∷ stale) = false
+
+  -- The same, if that is what is asked for.
+  abbrev pub are_got_by : Query → Variable → Operand → Bool
+  are_got_by PvGet v o = are_got_within v o g.stale
+  are_got_by _ v o = true
+
   -- ---- prints
 
   -- Whether so many topmost operands are the same, or a string is one of a `printf` that may have other values.
@@ -268,8 +312,8 @@ module _ (g : Ground) (set : ℕ) (f : Flow) where
   is_fine_at at (Put v is_async) = is_put at v.place && leads at (at + 1) (Same ∷ known_at at)
   is_fine_at at (PutAt v is_async) = are_put_by at v (top_of (known_at at)) && leads at (at + 1) (Same ∷ below (known_at at))
   is_fine_at at (Ask query number) = leads at (at + 1) (Same ∷ known_at at)
-  is_fine_at at (AskLink query v) = leads at (at + 1) (Same ∷ known_at at)
-  is_fine_at at (AskElement query v) = is_same_in (top_of (known_at at)) && leads at (at + 1) (Same ∷ below (known_at at))
+  is_fine_at at (AskLink query v) = is_got_by query v && leads at (at + 1) (Same ∷ known_at at)
+  is_fine_at at (AskElement query v) = is_same_in (top_of (known_at at)) && are_got_by query v (top_of (known_at at)) && leads at (at + 1) (Same ∷ below (known_at at))
   is_fine_at at (Clear v) = leads_after at (at + 1) (known_at at) v v.place v.size
   is_fine_at at (Assign v element line) =
       (is_same_in (top_of (known_at at)) && leads_after at (at + 1) (below (known_at at)) v (v.place + element) 1)

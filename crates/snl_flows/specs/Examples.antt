@@ -13,7 +13,7 @@ own = record { place = 3; size = 1; least = negsuc 9; greatest = pos 9; is_share
 
 -- Its word is hidden, in a program without links and functions, and of some lines overflows are left out.
 abbrev pub hides : List ℕ → Ground
-hides lines = record { hidden = (3 ∷ []) ∷ []; lines = lines; names = []; channels = []; ties = []; homes = []; functions = []; formats = [] }
+hides lines = record { hidden = (3 ∷ []) ∷ []; stale = []; lines = lines; names = []; channels = []; ties = []; homes = []; rooms = []; functions = []; formats = [] }
 
 -- Code that counts, and leaves for a state;
 abbrev pub counts : List Instr

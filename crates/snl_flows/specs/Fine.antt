@@ -11,6 +11,8 @@ use Rattle.snl_meaning.specs.Links.{link_from}
 use Rattle.snl_meaning.specs.Names.{format_text}
 use Rattle.snl_meaning.specs.Run.{Entry}
 use Rattle.snl_meaning.specs.Words.{element_place}
+use Rattle.snl_names.specs.declared.builtins.Query.{Query}
+use Rattle.snl_names.specs.declared.builtins.Query.TheVariants.{PvGet}
 use Rattle.snl_flows.specs.Outside.{has, places_of}
 use Rattle.snl_flows.specs.Tables.{Operand, Another, Same, Within, IsSameIn, CanBe, top_of, below, under, AreFirstSame, AreAllSame, IsNoMore, AreNoMore, Flow, Ground, MayDiffer, IsReached, IsSameAt, facts_at, is_loose, said_at}
 use Rattle.snl_flows.specs.Texts.{IsNamed}
@@ -121,6 +123,14 @@ module _ (g : Ground) (set : ℕ) (f : Flow) where
   abbrev pub IsPut : (at place : ℕ) → Type 0
   IsPut at place = (link : ℕ) (t : Tied) → link_from 0 (slice_index_or g.homes set []) place ≡ Some link → slice_get g.ties link ≡ Some t → IsPutBy at place t.count t.channel
 
+  -- ---- what is got
+
+  -- The elements of a link from a place on may get what is not the same where its buffer may differ, if that is what is asked for.
+  abbrev pub IsGot : Query → (place : ℕ) → Type 0
+  IsGot PvGet place = (link e : ℕ) (t : Tied) → link_from 0 (slice_index_or g.homes set []) place ≡ Some link → slice_get g.ties link ≡ Some t → e < t.count →
+      has g.stale (t.from + e) ≡ true → MayDiffer (places_of g.hidden set) f false (place + e)
+  IsGot _ place = Unit {0}
+
   -- ---- prints
 
   -- So many topmost operands are the same, or a string is one of a `printf` that may have other values.
@@ -191,8 +201,10 @@ module _ (g : Ground) (set : ℕ) (f : Flow) where
       IsSameIn (top_of (operands_at at)) × ((k : ℕ) → CanBe (top_of (operands_at at)) k → IsPut at (element_place v k))
       × LeadsTo at (at + 1) (Same ∷ below (operands_at at))
   IsFineAt at (Ask query number) = LeadsTo at (at + 1) (Same ∷ operands_at at)
-  IsFineAt at (AskLink query v) = LeadsTo at (at + 1) (Same ∷ operands_at at)
-  IsFineAt at (AskElement query v) = IsSameIn (top_of (operands_at at)) × LeadsTo at (at + 1) (Same ∷ below (operands_at at))
+  IsFineAt at (AskLink query v) = IsGot query v.place × LeadsTo at (at + 1) (Same ∷ operands_at at)
+  IsFineAt at (AskElement query v) =
+      IsSameIn (top_of (operands_at at)) × ((k : ℕ) → CanBe (top_of (operands_at at)) k → IsGot query (element_place v k))
+      × LeadsTo at (at + 1) (Same ∷ below (operands_at at))
   IsFineAt at (Clear v) = LeadsAfter at (at + 1) (operands_at at) (IsAnyElement v)
   IsFineAt at (Assign v element line) =
       (IsSameIn (top_of (operands_at at)) × LeadsAfter at (at + 1) (below (operands_at at)) (IsElement v element))

@@ -23,20 +23,22 @@ use Rattle.snl_syntax.specs.Programs.{ClauseTree, ProgramTree}
 use Rattle.snl_alike.specs.TwoRuns.{Agrees, Alike}
 use Rattle.snl_flows.specs.Quiet.{AreFine}
 use Rattle.snl_flows.specs.LeftOut.{IsLeftOut}
-use Rattle.snl_flows.specs.Outside.{IsSameByState, IsSameOutside, Places, has, places_for, places_in, places_of}
-use Rattle.snl_flows.specs.Tables.{Flow, Ground, HasLinks, facts_at, first_facts}
+use Rattle.snl_flows.specs.Outside.{IsSameByState, IsSameOutside, Places, each_always, has, places_for, places_in, places_of}
+use Rattle.snl_flows.specs.Tables.{AreBehind, Flow, Ground, HasLinks, facts_at, first_facts}
 use Rattle.snl_flows.specs.Texts.{IsInLine, SameButValues}
 
--- What holds for all state sets of a program with some links, its functions and its strings, where these places are hidden, overflows of
--- these lines are left out, and puts to these channels and `printf`s of these strings may have other values.
-abbrev pub ground_of : ProgramTree → List Link → Code → (hidden : List (List ℕ)) → (lines : List ℕ) → (names : List (List ℕ)) → Ground
-ground_of p ls c hidden lines names = record {
+-- What holds for all state sets of a program with some links, its functions and its strings, where these places are hidden and these of
+-- buffers are stale, overflows of these lines are left out, and puts to these channels and `printf`s of these strings may have other values.
+abbrev pub ground_of : ProgramTree → List Link → Code → (hidden : List (List ℕ)) → (stale lines : List ℕ) → (names : List (List ℕ)) → Ground
+ground_of p ls c hidden stale lines names = record {
   hidden = hidden;
+  stale = stale;
   lines = lines;
   names = names;
   channels = channels ls;
   ties = ties_in p ls;
   homes = homes_in (placed_sets p 0 p.state_sets) ls;
+  rooms = map (λ (l : Link). (l.queue, l.count)) ls;
   functions = entries_of c;
   formats = texts_of c;
 }
@@ -85,25 +87,29 @@ IsBehindPiece p hidden (piece.Block set state k) f =
 IsBehindPiece p hidden _ f = Unit {0}
 
 -- A table shows of a piece, while its state set is in a state, that what is hidden decides nothing.
-pub record IsShownBy (p : ProgramTree) (ls : List Link) (c : Code) (hidden : List Places) (lines : List ℕ) (names : List (List ℕ)) (name : Piece) (piece : PieceTree) (state start : ℕ) : Type 0 where
+pub record IsShownBy (p : ProgramTree) (ls : List Link) (c : Code) (hidden : List Places) (stale lines : List ℕ) (names : List (List ℕ)) (name : Piece) (piece : PieceTree)
+    (state start : ℕ) : Type 0 where
   pub flow : Flow
-  pub shown : IsShown (ground_of p ls c (all_in hidden state) lines names) (set_of piece) (places_for hidden (set_of piece)).always c.instrs.items start flow
+  pub shown : IsShown (ground_of p ls c (all_in hidden state) stale lines names) (set_of piece) (places_for hidden (set_of piece)).always c.instrs.items start flow
   pub behind : IsBehindPiece p hidden name flow
 
 -- What is hidden is right: the code is that of the program; some table shows it of each piece, in each state in which it can run; what is
--- hidden in each state is so in every one; there is a first state; and no name of a state set has a newline.
-pub record AreFlowsOf (p : ProgramTree) (ls : List Link) (c : Code) (hidden : List Places) (lines : List ℕ) (names : List (List ℕ)) : Type 0 where
+-- hidden in each state is so in every one; there is a first state; what may differ of buffers comes to places that are hidden in each state;
+-- and no name of a state set has a newline.
+pub record AreFlowsOf (p : ProgramTree) (ls : List Link) (c : Code) (hidden : List Places) (stale lines : List ℕ) (names : List (List ℕ)) : Type 0 where
   pub code : IsCodeOf p c
   pub shown : (name : Piece) (piece : PieceTree) (state start : ℕ) → piece_of p name ≡ Some piece → RunsIn hidden name state → start_in (table_of c) name ≡ Some start →
-      IsShownBy p ls c hidden lines names name piece state start
+      IsShownBy p ls c hidden stale lines names name piece state start
   pub wide : (set state k : ℕ) → has (places_for hidden set).always k ≡ true → has (places_in (places_for hidden set) state) k ≡ true
   pub some : 0 < length (places_for hidden 0).states
+  pub behind : AreBehind (ground_of p ls c (each_always hidden) stale lines names)
   pub named : (set : ℕ) → IsInLine (name_by (slice_get p.state_sets set))
 
--- Two worlds are the same outside, and have the links of the program.
+-- Two worlds are the same outside, have the links of the program, and what may differ of buffers comes to hidden places.
 pub record IsAlike (g : Ground) (w u : World) : Type 0 where
+  pub behind : AreBehind g
   pub links : HasLinks g w
-  pub outside : IsSameOutside g.hidden w u
+  pub outside : IsSameOutside g.hidden g.stale w u
 
 -- A piece comes out alike from such worlds, but for what is left out: a condition with its value, a block with the state that it leaves for.
 abbrev pub PieceFlows : Ground → ProgramTree → PieceTree → Type 0
@@ -120,18 +126,22 @@ pub record IsBetween (s : Places) (state : ℕ) (places : List ℕ) : Type 0 whe
 -- Where what is hidden is right, each piece comes out alike that a run can come to, from worlds that are the same but at such places, whatever
 -- is hidden of the other copies.
 abbrev pub PiecesFlow : Type 0
-PiecesFlow = (p : ProgramTree) (ls : List Link) (c : Code) (hidden : List Places) (lines : List ℕ) (names : List (List ℕ)) → AreFlowsOf p ls c hidden lines names →
+PiecesFlow = (p : ProgramTree) (ls : List Link) (c : Code) (hidden : List Places) (stale lines : List ℕ) (names : List (List ℕ)) → AreFlowsOf p ls c hidden stale lines names →
     (name : Piece) (piece : PieceTree) (state : ℕ) (places : List (List ℕ)) → kept_piece (holds_in (table_of c)) p name ≡ Some piece → RunsIn hidden name state →
-    IsBetween (places_for hidden (set_of piece)) state (places_of places (set_of piece)) → PieceFlows (ground_of p ls c places lines names) p piece
+    IsBetween (places_for hidden (set_of piece)) state (places_of places (set_of piece)) → PieceFlows (ground_of p ls c places stale lines names) p piece
 
 -- So does a line, whatever its event is, from worlds that are the same but for what is hidden in their states, in the first of which a
 -- machine of the program can be.
 abbrev pub LinesFlow : Type 0
-LinesFlow = (p : ProgramTree) (ls : List Link) (c : Code) (hidden : List Places) (lines : List ℕ) (names : List (List ℕ))
+LinesFlow = (p : ProgramTree) (ls : List Link) (c : Code) (hidden : List Places) (stale lines : List ℕ) (names : List (List ℕ))
     (waits : Bool) (budget ms : ℕ) (event : Event) (w u : World) →
-    AreFlowsOf p ls c hidden lines names → 0 < length p.state_sets → CanBeIn p ls c w → IsSameByState hidden w u →
-    Alike (IsLeftOut lines) (IsSameByState hidden) (SameButValues names) (line_of (program_meaning p ls waits) budget ms event w)
+    AreFlowsOf p ls c hidden stale lines names → 0 < length p.state_sets → CanBeIn p ls c w → IsSameByState hidden stale w u →
+    Alike (IsLeftOut lines) (IsSameByState hidden stale) (SameButValues names) (line_of (program_meaning p ls waits) budget ms event w)
     (line_of (program_meaning p ls waits) budget ms event u)
+
+-- With no stale place all that may differ of buffers comes to hidden places: nothing does.
+abbrev pub NothingIsStale : Type 0
+NothingIsStale = (g : Ground) → g.stale ≡ [] → AreBehind g
 
 -- With no line nothing is left out, and with no name texts are the same.
 pub record NothingIsLeftOut : Type 0 where

@@ -1,6 +1,7 @@
 -- What is known at an address of code of two runs from worlds that are the same outside: which words are the same in both, and which operands.
-use Rattle.std.specs.Prelude.{◌≡◌, ◌⊎◌, ◌≤◌, ◌<◌, ℕ, zero, suc, Bool, true, false, List, [], ◌∷◌, Option, length, slice_index_or}
+use Rattle.std.specs.Prelude.{◌≡◌, ◌⊎◌, ◌+◌, ◌≤◌, ◌<◌, ℕ, zero, suc, Bool, true, false, List, [], ◌∷◌, Option, None, Some, length, map, slice_get, slice_index_or}
 use Rattle.snl_meaning.specs.declared.ties.Tied.{Tied}
+use Rattle.snl_meaning.specs.Frames.{room_in}
 use Rattle.snl_meaning.specs.Run.{Entry}
 use Rattle.snl_meaning.specs.World.{World}
 use Rattle.snl_flows.specs.Outside.{has, places_of}
@@ -99,25 +100,39 @@ pub record Flow : Type 0 where
 abbrev pub no_flow : Flow
 no_flow = record { rows = []; loose = []; loose_words = []; heights = []; joins = []; given = Same; ends = []; leaves = [] }
 
--- What holds for all state sets: by state set the hidden places of its copy; the lines of which overflows, and values that do not fit, are
--- left out; the channels whose puts may have other values, and the strings of the `printf`s that may; what a program's channels are named,
--- what its links are tied to, and where they stand in each copy; its functions; and the strings of all its `printf`s.
+-- What holds for all state sets: by state set the hidden places of its copy; the stale places of buffers, which may differ; the lines of which
+-- overflows, and values that do not fit, are left out; the channels whose puts may have other values, and the strings of the `printf`s that
+-- may; what a program's channels are named, what its links are tied to, where they stand in each copy, and the size and the width of their
+-- queues; its functions; and the strings of all its `printf`s.
 pub record Ground : Type 0 where
   pub hidden : List (List ℕ)
+  pub stale : List ℕ
   pub lines : List ℕ
   pub names : List (List ℕ)
   pub channels : List (List ℕ)
   pub ties : List Tied
   pub homes : List (List (Option ℕ))
+  pub rooms : List (ℕ × ℕ)
   pub functions : List Entry
   pub formats : List (List ℕ)
 
--- A world has these channels and these links, and as many copies.
+-- A world has these channels and these links, with such queues, and as many copies.
 pub record HasLinks (g : Ground) (w : World) : Type 0 where
   pub channels : w.channels ≡ g.channels
   pub ties : w.ties ≡ g.ties
   pub homes : w.homes ≡ g.homes
+  pub rooms : map room_in w.queues ≡ g.rooms
   pub many : length w.copies ≡ length g.homes
+
+-- The size and the width of the queue of a link.
+abbrev pub room_of : Ground → (link : ℕ) → ℕ × ℕ
+room_of g link = slice_index_or g.rooms link (0, 0)
+
+-- What may differ of buffers comes to hidden places alone: those of each copy that has the link, and those of no queue.
+pub record AreBehind (g : Ground) : Type 0 where
+  pub hides : (set link e home : ℕ) (t : Tied) → slice_get g.ties link ≡ Some t → slice_index_or (slice_index_or g.homes set []) link None ≡ Some home → e < t.count →
+      has g.stale (t.from + e) ≡ true → has (places_of g.hidden set) (home + e) ≡ true
+  pub queued : (link e : ℕ) (t : Tied) → slice_get g.ties link ≡ Some t → 0 < (room_of g link).0 → e < (room_of g link).1 → has g.stale (t.from + e) ≡ false
 
 -- What a table says of an address.
 abbrev pub facts_at : Flow → ℕ → Facts

@@ -2,7 +2,8 @@
 
 ghost use Rattle.snl_flows.specs.QuietChecks.{ChecksAreRight};
 ghost use Rattle.snl_flows.specs.Examples.{FlowsExamples};
-ghost use Rattle.snl_flows.specs.Flows.{LinesFlow, NothingIsLeftOut, PiecesFlow};
+ghost use Rattle.snl_flows.specs.Flows.{LinesFlow, NothingIsLeftOut, NothingIsStale, PiecesFlow};
+ghost use Rattle.snl_flows.specs.Outside.{BuffersAreSame};
 
 /// Where tables are right of the code of a program, its pieces come out alike from worlds that are the same outside.
 pub fn pieces_flow()
@@ -18,6 +19,17 @@ pub fn lines_flow()
 #[tactic(auto, using(crate::proofs::Nothing::nothing_is_left_out))]
 pub fn nothing_is_left_out()
     ensures { NothingIsLeftOut }
+{}
+
+/// With no stale place buffers are the same.
+pub fn buffers_are_same()
+    ensures { BuffersAreSame }
+{}
+
+/// Nothing that may differ of buffers comes anywhere then.
+#[tactic(auto, using(crate::proofs::Nothing::nothing_is_stale))]
+pub fn nothing_is_stale()
+    ensures { NothingIsStale }
 {}
 
 /// Where the check of a table says so, the table is right.
