@@ -30,6 +30,12 @@ ss a { state one { when (delay(0.001)) {} state two } state two { when (delay(0.
 """
 
 
+def ring(count):
+    """A program of so many states, one after another, in each of which a value is kept that nothing reads."""
+    states = [f"state s{k} {{ when (x > {k % 3} && delay(1)) {{ kept = x; }} state s{(k + 1) % count} }}" for k in range(count)]
+    return "\n".join(["program ring option +s;", 'int x; assign x to "X"; monitor x;', "int kept;", "ss a {", *states, "}", ""])
+
+
 @dataclass
 class Bound:
     name: str
@@ -53,6 +59,7 @@ def cases():
     yield Bound("snl search: --seconds holds while it goes to the starts of a long day", long_day)
     yield Bound("snl search: --memory holds", memory, of_memory=True)
     yield Bound("snl search: --memory holds for the lines of a day", day_memory, of_memory=True)
+    yield Bound("snl search: what decides nothing is found in a program of many states, in little memory", many_states, of_memory=True)
 
 
 def searched(programs, folder, source, words, stdin=subprocess.DEVNULL):
@@ -132,4 +139,16 @@ def memory(programs, folder):
             return f"status {ran.status}, {ran.last!r}"
         if not megabytes * 500 < ran.kilobytes < megabytes * 1_100 + ITSELF:
             return f"{ran.kilobytes} kilobytes, and {megabytes} megabytes were said"
+    return ""
+
+
+def many_states(programs, folder):
+    """What is kept and not read makes no worlds, and to find that out takes no table for each of many states."""
+    for count, kilobytes in (30, 20_000), (600, 40_000):
+        (folder / "p.st").write_text(ring(count))
+        ran = peak([programs["snl"], "search", "--lines", "100000", "--seconds", "50", "p.st"], folder, subprocess.DEVNULL)
+        if (ran.status, ran.last) != (0, f"never ({6 * count} worlds; {count} of {count} clauses)"):
+            return f"{count} states: status {ran.status}, {ran.last!r}"
+        if ran.kilobytes > kilobytes:
+            return f"{count} states: {ran.kilobytes} kilobytes"
     return ""

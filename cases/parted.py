@@ -60,7 +60,7 @@ def first_of(*found):
 
 
 def joined(root, program, folder):
-    parts = [search(program, folder, f"{it}/3") for it in (1, 2, 3)]
+    parts = [search(program, folder, f"{it}/3", "--lines", "2") for it in (1, 2, 3)]
     version = (root / "VERSION").read_text().strip()
     wrong, subjects = [], set()
     for number, (_, (status, text, said)) in enumerate(parts, 1):
@@ -70,7 +70,7 @@ def joined(root, program, folder):
         wrong.append(differs((status, said), (0, "")))
         wrong.append(differs(first.split(": ")[1], f"{count} of 8 starts\n"))
         wrong.append(differs((starts, channels), (f"starts: {count}{STARTS}", ALPHABET)))
-        wrong.append("" if last.startswith("none up to 4 lines (") else f"the last line is {last!r}")
+        wrong.append("" if last.startswith("none up to 2 lines (") else f"the last line is {last!r}")
     (subject,) = subjects
     head = f"parts: 3 of {subject}\nstarts: 8{STARTS}{ALPHABET}{NOTE}"
     names = [name for name, _ in parts]
@@ -78,9 +78,9 @@ def joined(root, program, folder):
     return first_of(
         *wrong,
         "" if subject.startswith(f"snl {version} ") and len(subject.split()[2]) == 64 else f"the subject is {subject!r}",
-        differs(answer, (0, head + "none up to 4 lines, by the answers of 3 jobs\n", "")),
+        differs(answer, (0, head + "none up to 2 lines, by the answers of 3 jobs\n", "")),
         differs(join(program, folder, *reversed(names)), answer),
-        differs(join(program, folder, *names, names[0])[1], head + "none up to 4 lines, by the answers of 4 jobs\n"),
+        differs(join(program, folder, *names, names[0])[1], head + "none up to 2 lines, by the answers of 4 jobs\n"),
     )
 
 
