@@ -21,7 +21,7 @@ use Rattle.snl_names.specs.declared.builtins.Query.TheVariants.{EfClear, EfSet, 
 use Rattle.snl_alike.specs.TwoRuns.{FetchesBy}
 use Rattle.snl_alike.proofs.Linked.{agrees-printed, agrees-asked, agrees-ask_element}
 use Rattle.snl_flows.specs.Fine.{AreRead, Begins, IsAnyElement, IsFineAt, IsFirstSame, IsGot, IsPrinted, LeadsTo, MayBecomeOther, MayOverflowBy, MayOverflowOver, PrefixMayOverflow, Takes, settled_of}
-use Rattle.snl_flows.specs.LeftOut.{IsLeftOut}
+use Rattle.snl_flows.specs.LeftOut.{left_out}
 use Rattle.snl_flows.specs.Outside.{has}
 use Rattle.snl_flows.specs.Tables.{Operand, Another, Same, Within, IsSameIn, top_of, below, Flow, Ground, HasLinks}
 use Rattle.snl_flows.specs.Texts.{IsNamed, SameButValues}
@@ -213,7 +213,7 @@ module _ (g : Ground) (f : Flow) (c : PieceContext) where
   prints at format n s t w u same fine h e =
       ⊎_elim
       (λ first. subst (λ (zs : List ℤ). AlikeTo g (Holds g f c at Same) (printed c.name text (take n s) w) (printed c.name text zs u)) (first-same n s t (ops g f c at) first h)
-      (free g f c at (printed c.name text (take n s)) (λ keep. agrees-printed (IsLeftOut g.lines) c.set (At g f c at) (SameButValues g.names) keep c.name text (take n s)) w u e))
+      (free g f c at (printed c.name text (take n s)) (λ keep. agrees-printed (left_out g.lines) c.set (At g f c at) (SameButValues g.names) keep c.name text (take n s)) w u e))
       (λ named. BothLead (pos 0) (pos 0) w u _ _ (refl, e)
       (subst (λ (ms : ℕ). SameButValues g.names (printed_line w.time c.name text (reverse (take n s))) (printed_line ms c.name text (reverse (take n t)))) (ap (λ (v : World). v.time) e.same)
       (one-print g.names w.time c.name text (reverse (take n s)) (reverse (take n t)) (subst (λ (fs : List (List ℕ)). IsNamed g.names (format_text fs format)) same named)))) fine
@@ -248,7 +248,7 @@ module _ (g : Ground) (f : Flow) (c : PieceContext) where
       AlikeTo g (Holds g f c at Same) (ask_element query c.set v x w) (ask_element query c.set v x u)
   asks at query v x w u links got e =
       linked g c.set (K g f c at) (ask_element query c.set v x)
-      (agrees-ask_element (IsLeftOut g.lines) c.set (KeptLinked g c.set (K g f c at)) (SameButValues g.names) (keeps-linked g c.set (K g f c at)) query v x
+      (agrees-ask_element (left_out g.lines) c.set (KeptLinked g c.set (K g f c at)) (SameButValues g.names) (keeps-linked g c.set (K g f c at)) query v x
       (gets at (element_place v (natural x)) query got)) w u links e
 
   -- ---- all of them
@@ -321,7 +321,7 @@ module _ (g : Ground) (f : Flow) (c : PieceContext) where
   done-alike (PutAt v async) at s t w u links backs same = puts-at at v async s t w u links
   done-alike (Ask query number) at s t w u links backs same = λ fine h e.
       pushed g f c at Same (ops g f c at) s t w u (asked query number w) (asked query number u) fine h e
-      (free g f c at (asked query number) (λ keep. agrees-asked (IsLeftOut g.lines) c.set (At g f c at) (SameButValues g.names) keep query number) w u e)
+      (free g f c at (asked query number) (λ keep. agrees-asked (left_out g.lines) c.set (At g f c at) (SameButValues g.names) keep query number) w u e)
   done-alike (AskLink query v) at s t w u links backs same = λ fine h e.
       pushed g f c at Same (ops g f c at) s t w u (ask_element query c.set v (pos 0) w) (ask_element query c.set v (pos 0) u) fine.1 h e (asks at query v (pos 0) w u links fine.0 e)
   done-alike (AskElement query v) at s t w u links backs same = λ fine h e.

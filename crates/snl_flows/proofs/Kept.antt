@@ -8,9 +8,9 @@ use Rattle.snl_meaning.specs.Printing.{print_line}
 use Rattle.snl_meaning.specs.Ran.{Ran}
 use Rattle.snl_meaning.specs.Words.{noted, settled, waited, waited_until}
 use Rattle.snl_meaning.specs.World.{SetMemory, World, copy_of, no_copy}
-use Rattle.snl_alike.specs.TwoRuns.{Agrees, Alike, BothGive, BothFault, FirstLeftOut, SecondLeftOut, KeepsAlike, common_of, with_common}
+use Rattle.snl_alike.specs.TwoRuns.{Agrees, Alike, BothGive, BothFault, FirstLeftOut, SecondLeftOut, SecondWrote, KeepsAlike, common_of, with_common}
 use Rattle.snl_flows.specs.Fine.{settled_of}
-use Rattle.snl_flows.specs.LeftOut.{IsLeftOut}
+use Rattle.snl_flows.specs.LeftOut.{left_out}
 use Rattle.snl_flows.specs.Tables.{Operand, Another, Same, Within, Ground, HasLinks}
 use Rattle.snl_flows.specs.Texts.{SameButValues, NoLines}
 use Rattle.snl_flows.proofs.Agree.{AgreeOn, agree-overwritten}
@@ -91,18 +91,19 @@ module _ (g : Ground) (set : ℕ) (K : Bool → ℕ → Type 0) where
   }
 
   -- what comes out alike
-  pub from-alike : {A : Type 0} (E : World → World → Type 0) → ((w u : World) → E w u → Kept w u) → (r s : Ran A) → Alike (IsLeftOut g.lines) E (SameButValues g.names) r s → AlikeTo g SameKept r s
+  pub from-alike : {A : Type 0} (E : World → World → Type 0) → ((w u : World) → E w u → Kept w u) → (r s : Ran A) → Alike (left_out g.lines) E (SameButValues g.names) r s → AlikeTo g SameKept r s
   from-alike E less _ _ (BothGive v w u a b e t) = BothLead v v w u a b (refl, less w u e) t
   from-alike E less _ _ (BothFault fault line w u a b e t) = BothStop fault line w u a b (same-outside g set K w u (less w u e)) t
   from-alike E less _ _ (FirstLeftOut fault line w a r left) = FirstStops fault line w a r left
   from-alike E less _ _ (SecondLeftOut fault line u b r left) = SecondStops fault line u b r left
+  from-alike E less _ _ (SecondWrote r s never) = absurd never
 
   -- a word that needs none
-  pub plain : {A : Type 0} (word : World → Ran A) → Agrees (IsLeftOut g.lines) Kept (SameButValues g.names) word → (w u : World) → Kept w u → AlikeTo g SameKept (word w) (word u)
+  pub plain : {A : Type 0} (word : World → Ran A) → Agrees (left_out g.lines) Kept (SameButValues g.names) word → (w u : World) → Kept w u → AlikeTo g SameKept (word w) (word u)
   plain word h w u e = from-alike Kept (λ x y k. k) (word w) (word u) (h w u e)
 
   -- one that asks of links
-  pub linked : {A : Type 0} (word : World → Ran A) → Agrees (IsLeftOut g.lines) KeptLinked (SameButValues g.names) word → (w u : World) → HasLinks g w → Kept w u →
+  pub linked : {A : Type 0} (word : World → Ran A) → Agrees (left_out g.lines) KeptLinked (SameButValues g.names) word → (w u : World) → HasLinks g w → Kept w u →
       AlikeTo g SameKept (word w) (word u)
   linked word h w u links e = from-alike KeptLinked (λ x y k. k.kept) (word w) (word u) (h w u (record { links = links; kept = e }))
 

@@ -1,6 +1,6 @@
 -- Where what is hidden is right, the lines of a program come out alike from worlds that are the same but for that.
 use Rattle.std.proofs.Common.{◌≡◌, ◌∙◌, ◌⊎◌, ◌+◌, ◌<◌, inl, inr, ⊎_elim, refl, sym, ap, subst, arith, ℕ, suc, pos, Bool, true, false, List, [], ◌∷◌, Option, Some, length, map}
-use Rattle.std.specs.Prelude.{nat_lt, option_map, slice_index_or}
+use Rattle.std.specs.Prelude.{nat_lt, option_map, slice_get, slice_index_or}
 use Rattle.std.proofs.lemmas.Bool.{false≢true, ltb-true, ltb-false}
 use Rattle.std.proofs.lemmas.List.{length-map}
 use Rattle.snl_channels.specs.Links.{Link}
@@ -12,14 +12,13 @@ use Rattle.snl_flat.specs.Heres.{for_each_set, placed_in, routines_in, scene_in}
 use Rattle.snl_flat.specs.Pieces.{Test, Action, kept_piece}
 use Rattle.snl_flat.specs.Reached.{Table}
 use Rattle.snl_flat.specs.Starts.{holds_in, table_of}
-use Rattle.snl_load.specs.Meaning.{program_meaning, state_left_for, target_of}
+use Rattle.snl_load.specs.Meaning.{program_meaning, set_meaning, state_left_for, target_of}
 use Rattle.snl_load.specs.Places.{home_in, placed_sets}
-use Rattle.snl_load.specs.Reached.{only_reached}
+use Rattle.snl_load.specs.Reached.{only_reached, set_reached}
 use Rattle.snl_machine.specs.Reached.{AreReached, IsIn}
 use Rattle.snl_machine.specs.Snapshots.{CanBeIn}
 use Rattle.snl_machine.proofs.Reached.{reached_are_closed, unreached_do_nothing}
 use Rattle.snl_machine.proofs.States.{pieces-stay}
-use Rattle.snl_meaning.specs.declared.faults.Fault.{Fault}
 use Rattle.snl_meaning.specs.declared.live.Live.{Live}
 use Rattle.snl_meaning.specs.declared.live.Live.TheVariants.{Waiting}
 use Rattle.snl_meaning.specs.Effect.{block_effect, held_by}
@@ -39,12 +38,12 @@ use Rattle.snl_schedule.specs.Turn.{target_by}
 use Rattle.snl_syntax.specs.Expressions.{ExprTree}
 use Rattle.snl_syntax.specs.Programs.{ProgramTree, StateSetTree}
 use Rattle.snl_syntax.specs.Statements.{BlockTree}
-use Rattle.snl_alike.specs.Runs.{AnyComes, AreAlikeInRuns, HoldsBehind, NothingMore, StartAgrees}
-use Rattle.snl_alike.specs.TwoRuns.{Alike, BothGive, BothFault, FirstLeftOut, SecondLeftOut}
+use Rattle.snl_alike.specs.Runs.{AnyComes, AreAlikeInRuns, HoldsBehind, NothingMore, StartAgrees, NoStray, TellsStrays}
+use Rattle.snl_alike.specs.TwoRuns.{Alike, BothGive, BothFault, FirstLeftOut, SecondLeftOut, SecondWrote, Exempt}
 use Rattle.snl_alike.proofs.Instants.{line-alike, started-alike}
 use Rattle.snl_alike.proofs.Programs.{any-comes, nothing-behind, nothing-there}
 use Rattle.snl_flows.specs.Flows.{AreFlowsOf, IsAlike, IsBetween, LinesFlow, RunsIn, ground_of}
-use Rattle.snl_flows.specs.LeftOut.{IsLeftOut}
+use Rattle.snl_flows.specs.LeftOut.{left_out}
 use Rattle.snl_flows.specs.Outside.{IsSameByState, Places, each_always, has, hidden_in, places_by, places_for, places_in, places_of}
 use Rattle.snl_flows.specs.Tables.{AreBehind, Ground, HasLinks}
 use Rattle.snl_flows.specs.Texts.{SameButValues, NoLines}
@@ -90,9 +89,9 @@ module _ (p : ProgramTree) (ls : List Link) (c : Code) (hidden : List Places) (s
   abbrev Texts : List ℕ → List ℕ → Type 0
   Texts = SameButValues names
 
-  -- faults that are left out
-  abbrev Out : Fault → ℕ → Type 0
-  Out = IsLeftOut lines
+  -- what is exempt
+  abbrev Out : Exempt
+  Out = left_out lines
 
   -- the states that a run can come to
   abbrev reached : Table
@@ -135,6 +134,7 @@ module _ (p : ProgramTree) (ls : List Link) (c : Code) (hidden : List Places) (s
   settled-now w _ _ keeps (BothFault fault line x y a b e t) = BothFault fault line x y a b (back ground hidden right.wide right.behind w x y (kept-places w x keeps) e) t
   settled-now w _ _ keeps (FirstLeftOut fault line x a r out) = FirstLeftOut fault line x a r out
   settled-now w _ _ keeps (SecondLeftOut fault line y b r out) = SecondLeftOut fault line y b r out
+  settled-now w _ _ keeps (SecondWrote r s never) = SecondWrote r s never
 
   -- while a state set is in a state
   settled-in : {A : Type 0} (set state : ℕ) (w : World) (r s : Ran A) → (copy_of set w).state ≡ state → Keeps w (world_after r) →
@@ -145,6 +145,7 @@ module _ (p : ProgramTree) (ls : List Link) (c : Code) (hidden : List Places) (s
       BothFault fault line x y a b (record { alike = back ground hidden right.wide right.behind w x y (kept-places w x keeps) e; is_in = keeps.states set ∙ is }) t
   settled-in set state w _ _ is keeps (FirstLeftOut fault line x a r out) = FirstLeftOut fault line x a r out
   settled-in set state w _ _ is keeps (SecondLeftOut fault line y b r out) = SecondLeftOut fault line y b r out
+  settled-in set state w _ _ is keeps (SecondWrote r s never) = SecondWrote r s never
 
   -- ---- pieces, by states
 
@@ -237,9 +238,14 @@ module _ (p : ProgramTree) (ls : List Link) (c : Code) (hidden : List Places) (s
       by _ _ (FirstLeftOut fault line x a r out) = tt
       by (Gives v x a) _ (SecondLeftOut fault line y d r out) = tt
       by (Faults f l x a) _ (SecondLeftOut fault line y d r out) = tt
+      by _ _ (SecondWrote r t never) = absurd never
+
+  -- runs stray nowhere
+  none-stray : (set : ℕ) (g : StateSetTree) → slice_get p.state_sets set ≡ Some g → TellsStrays Out NoStray (set_reached reached (set_meaning p set g))
+  none-stray set g at from to ms never = absurd never
 
   -- all pieces
-  pieces-now : PiecesAgree Out Texts NoLines (texts-joined names) Now In (CarriesOver hidden) p reached
+  pieces-now : PiecesAgree Out Texts NoLines (texts-joined names) Now In NoStray (CarriesOver hidden) p reached
   pieces-now = record {
     tests = λ set state name x of is w u e.
         settled-in set state w _ _ e.is_in (test-keeps set x w)
@@ -269,7 +275,7 @@ module _ (p : ProgramTree) (ls : List Link) (c : Code) (hidden : List Places) (s
       subst (IsBetween (places_for hidden set) state) (sym (always-at hidden set)) (record { low = λ k here. here; high = λ k here. right.wide set state k here })
 
   -- all pieces
-  pieces-always : PiecesAgree Out Texts NoLines (texts-joined names) (IsAlike always) (λ set state. IsAlike always) NothingMore p reached
+  pieces-always : PiecesAgree Out Texts NoLines (texts-joined names) (IsAlike always) (λ set state. IsAlike always) NoStray NothingMore p reached
   pieces-always = record {
     tests = λ set state name x of is. each-flows p ls c hidden stale lines names right name (Test set x) state (each_always hidden) is (runs-of hidden name state of) (among set state);
     blocks = λ set state name b of is. each-flows p ls c hidden stale lines names right name (Action set b) state (each_always hidden) is (runs-of hidden name state of) (among set state);
@@ -278,7 +284,7 @@ module _ (p : ProgramTree) (ls : List Link) (c : Code) (hidden : List Places) (s
         (ap (option_map (Action 0)) entry) right.some (among 0 0))
         (λ (exit : p.exit ≡ Some b). each-flows p ls c hidden stale lines names right ProgramExit (Action 0 b) 0 (each_always hidden) (ap (option_map (Action 0)) exit) right.some (among 0 0)) which;
     leads = λ set state k x clause is w u e.
-        nothing-behind {A = Option ℕ} set state (λ left. target_by left (target_of (scene_in p set).here.states x.target))
+        nothing-behind {A = Option ℕ} (NoStray set) set state (λ left. target_by left (target_of (scene_in p set).here.states x.target))
         (then_do (block_effect (scene_in p set) x.block w) state_left_for) (then_do (block_effect (scene_in p set) x.block u) state_left_for);
     keeps = λ set state to b is w u e l. nothing-there set state to _ _;
   }
@@ -334,20 +340,21 @@ module _ (p : ProgramTree) (ls : List Link) (c : Code) (hidden : List Places) (s
     weaker _ _ (BothFault fault line w u a b e t) = BothFault fault line w u a b (to-states w u e) t
     weaker _ _ (FirstLeftOut fault line w a r out) = FirstLeftOut fault line w a r out
     weaker _ _ (SecondLeftOut fault line u b r out) = SecondLeftOut fault line u b r out
+    weaker _ _ (SecondWrote r s never) = SecondWrote r s never
 
     -- the start
     start-now : StartAgrees Out Now Texts program
     start-now w u waiting e =
-        weaker _ _ (started-alike Out (length p.state_sets) (λ n m. n ≡ m) (IsAlike always) (λ set state. IsAlike always) NothingMore Texts always-runs AnyComes program
-        (program-agrees Out Texts NoLines (texts-joined names) (IsAlike always) (λ set state. IsAlike always) NothingMore p reached pieces-always AnyComes ls waits
+        weaker _ _ (started-alike Out (length p.state_sets) (λ n m. n ≡ m) (IsAlike always) (λ set state. IsAlike always) NothingMore Texts always-runs AnyComes NoStray program
+        (program-agrees Out Texts NoLines (texts-joined names) (IsAlike always) (λ set state. IsAlike always) NoStray NothingMore p reached pieces-always none-stray AnyComes ls waits
         (λ channel values link t x y may is k. received-keeps always (IsAlike always) (flow-stale always) channel values link t is x y k))
         (λ set low x y k. always-runs.enters set (copy_of set x).state 0 true low (inl refl) x y k tt) w u (to-always w u waiting e))
 
     -- a line without what is never reached
     line-now : (budget ms : ℕ) (event : Event) (w u : World) → Now w u → Alike Out Now Texts (line_of program budget ms event w) (line_of program budget ms event u)
     line-now budget ms event w u e =
-        line-alike Out (length p.state_sets) (λ n m. n ≡ m) Now In (CarriesOver hidden) Texts now-runs AnyComes program
-        (program-agrees Out Texts NoLines (texts-joined names) Now In (CarriesOver hidden) p reached pieces-now AnyComes ls waits
+        line-alike Out (length p.state_sets) (λ n m. n ≡ m) Now In (CarriesOver hidden) Texts now-runs AnyComes NoStray program
+        (program-agrees Out Texts NoLines (texts-joined names) Now In NoStray (CarriesOver hidden) p reached pieces-now none-stray AnyComes ls waits
         (λ channel values link t x y may is k. received-keeps ground Now (now-stale ground hidden right.wide right.behind) channel values link t is x y k))
         start-now budget ms ms refl event (any-comes event) w u e
 
@@ -357,6 +364,7 @@ module _ (p : ProgramTree) (ls : List Link) (c : Code) (hidden : List Places) (s
   let-go _ _ (BothFault fault line w u a b e t) = BothFault fault line w u a b e.outside t
   let-go _ _ (FirstLeftOut fault line w a r out) = FirstLeftOut fault line w a r out
   let-go _ _ (SecondLeftOut fault line u b r out) = SecondLeftOut fault line u b r out
+  let-go _ _ (SecondWrote r s never) = SecondWrote r s never
 
   -- states that a run can come to are so in the second world, too
   reached-in-both : (w u : World) → IsSameByState hidden stale w u → AreReached p reached w → AreReached p reached u
@@ -390,7 +398,7 @@ lines_flow p ls c hidden stale lines names waits budget ms event w u right some 
     let there : AreReached p reached u = reached-in-both p ls c hidden stale lines names right w u e can.reached in
     let less : World → Ran Live = λ x. line_of (only_reached reached (program_meaning p ls waits)) budget ms event x in
     let both = line-now p ls c hidden stale lines names right waits some budget ms event w u (record { links = linked p ls c hidden stale lines names right w can; outside = e }) in
-    subst (λ (r : Ran Live). Alike (IsLeftOut lines) (IsSameByState hidden stale) (SameButValues names) r (line_of (program_meaning p ls waits) budget ms event u))
+    subst (λ (r : Ran Live). Alike (left_out lines) (IsSameByState hidden stale) (SameButValues names) r (line_of (program_meaning p ls waits) budget ms event u))
     (unreached_do_nothing p ls waits reached budget ms event w closed can.reached)
-    (subst (λ (r : Ran Live). Alike (IsLeftOut lines) (IsSameByState hidden stale) (SameButValues names) (less w) r) (unreached_do_nothing p ls waits reached budget ms event u closed there)
+    (subst (λ (r : Ran Live). Alike (left_out lines) (IsSameByState hidden stale) (SameButValues names) (less w) r) (unreached_do_nothing p ls waits reached budget ms event u closed there)
     (let-go p ls c hidden stale lines names right (less w) (less u) both))

@@ -1,5 +1,5 @@
 -- Where tables are right of the code of a program, each of its pieces comes out alike from worlds that are the same outside.
-use Rattle.std.proofs.Common.{◌≡◌, ◌∙◌, refl, sym, ap, subst, arith, ℕ, zero, suc, ℤ, pos, Bool, true, false, List, [], ◌∷◌, ◌++◌, Option, None, Some, if◌then◌else◌}
+use Rattle.std.proofs.Common.{◌≡◌, ◌∙◌, inr, refl, sym, ap, subst, arith, ℕ, zero, suc, ℤ, pos, Bool, true, false, List, [], ◌∷◌, ◌++◌, Option, None, Some, if◌then◌else◌}
 use Rattle.std.proofs.lemmas.Bool.{false≢true}
 use Rattle.std.proofs.lemmas.List.{append-nil}
 use Rattle.std.specs.List.{flat_map}
@@ -32,11 +32,11 @@ use Rattle.snl_schedule.specs.declared.plans.Destination.TheVariants as to
 use Rattle.snl_schedule.specs.Turn.{target_by}
 use Rattle.snl_syntax.specs.Programs.{ClauseTree, ProgramTree}
 use Rattle.snl_syntax.specs.Statements.{BlockTree}
-use Rattle.snl_alike.specs.Runs.{GoesTo, HoldsBehind}
+use Rattle.snl_alike.specs.Runs.{GoesTo, HoldsBehind, NoStray}
 use Rattle.snl_alike.specs.TwoRuns.{Alike, BothGive, BothFault, FirstLeftOut, SecondLeftOut}
 use Rattle.snl_flows.specs.Quiet.{AreFine}
 use Rattle.snl_flows.specs.Flows.{AreFlowsOf, CoversBy, IsAlike, IsBehind, IsBehindPiece, IsBetween, PieceFlows, PiecesFlow, RunsIn, all_in, ground_of, set_of}
-use Rattle.snl_flows.specs.LeftOut.{IsLeftOut}
+use Rattle.snl_flows.specs.LeftOut.{left_out}
 use Rattle.snl_flows.specs.Outside.{AreSameAt, IsSameOutside, Places, has, places_for, places_in, places_of}
 use Rattle.snl_flows.specs.Tables.{AreBehind, Flow, Ground, HasLinks, facts_at, first_facts}
 use Rattle.snl_flows.specs.Texts.{IsInLine, SameButValues}
@@ -128,9 +128,9 @@ module _ (g : Ground) (f : Flow) (set : ℕ) where
   left-alike Stuck w u e known = absurd known
 
   -- with what is known of the world that the first one leaves
-  alike-by : {A : Type 0} (r s : Ran A) → AreBehind g → HasLinks g (world_after r) → AlikeTo {A = A} g SameValue r s → Alike (IsLeftOut g.lines) (IsAlike g) (SameButValues g.names) r s
+  alike-by : {A : Type 0} (r s : Ran A) → AreBehind g → HasLinks g (world_after r) → AlikeTo {A = A} g SameValue r s → Alike (left_out g.lines) (IsAlike g) (SameButValues g.names) r s
   alike-by {A = A} _ _ behind links (BothLead x y w u a b e t) =
-      subst (λ (z : A). Alike (IsLeftOut g.lines) (IsAlike g) (SameButValues g.names) (Gives x w a) (Gives z u b)) e.0
+      subst (λ (z : A). Alike (left_out g.lines) (IsAlike g) (SameButValues g.names) (Gives x w a) (Gives z u b)) e.0
       (BothGive x w u a b (record { behind = behind; links = links; outside = e.1 }) t)
   alike-by _ _ behind links (BothStop fault line w u a b e t) = BothFault fault line w u a b (record { behind = behind; links = links; outside = e }) t
   alike-by _ _ behind links (FirstStops fault line w a s out) = FirstLeftOut fault line w a s out
@@ -197,13 +197,13 @@ CarriesOver hidden set from to w u = (k : ℕ) → has (places_in (places_for hi
 
 -- so it is behind a block whose table says so, wherever it leads
 carried : (hidden : List Places) (set from : ℕ) (target : Destination) (f : Flow) → IsBehind (places_for hidden set) from target f → (r s : Ran (Option ℕ)) →
-    HoldsBehind (KnownLeft f set) r s → HoldsBehind (λ left. GoesTo (CarriesOver hidden set from) (target_by left target)) r s
+    HoldsBehind (KnownLeft f set) r s → HoldsBehind (λ left. GoesTo (NoStray set) (CarriesOver hidden set from) (target_by left target)) r s
 carried hidden set from target f behind (Gives None w a) (Gives z u b) known = by target behind.ends
   where
-    by : (d : Destination) → CoversBy (places_for hidden set) from d f.ends → GoesTo (CarriesOver hidden set from) d w u
-    by (to.State target) covers = λ k here shows. known k (covers k here shows)
+    by : (d : Destination) → CoversBy (places_for hidden set) from d f.ends → GoesTo (NoStray set) (CarriesOver hidden set from) d w u
+    by (to.State target) covers = inr (λ k here shows. known k (covers k here shows))
     by to.Exit covers = tt
-carried hidden set from target f behind (Gives (Some state) w a) (Gives z u b) known = λ k here shows. known k (behind.leaves state k here shows)
+carried hidden set from target f behind (Gives (Some state) w a) (Gives z u b) known = inr (λ k here shows. known k (behind.leaves state k here shows))
 carried hidden set from target f behind (Gives v w a) (Faults fault line u b) known = tt
 carried hidden set from target f behind (Faults fault line w a) s known = tt
 
@@ -267,7 +267,7 @@ module _ (p : ProgramTree) (ls : List Link) (c : Code) (places : List (List ℕ)
         (made-alike ground f set (SameLeft ground f set) left (left-alike ground f set) _ _ runs-of-block))
 
     -- the block
-    action-flows : Alike (IsLeftOut lines) (IsAlike ground) (SameButValues names) (then_do (way w) state_left_for) (then_do (way u) state_left_for)
+    action-flows : Alike (left_out lines) (IsAlike ground) (SameButValues names) (then_do (way w) state_left_for) (then_do (way u) state_left_for)
     action-flows =
         alike-by ground f set (then_do (way w) state_left_for) (then_do (way u) state_left_for) e.behind
         (links-by ground w (world_after (then_do (way w) state_left_for))
@@ -340,7 +340,7 @@ module _ (p : ProgramTree) (ls : List Link) (c : Code) (hidden : List Places) (s
   pub block-carries : (set state k : ℕ) (x : ClauseTree) (places : List (List ℕ)) → clause_at p set state k ≡ Some x →
       kept_piece (holds_in (table_of c)) p (Block set state k) ≡ Some (Action set x.block) → IsBetween (places_for hidden set) state (places_of places set) → (w u : World) →
       IsAlike (ground_of p ls c places stale lines names) w u →
-      HoldsBehind (λ left. GoesTo (CarriesOver hidden set state) (target_by left (target_of (scene_in p set).here.states x.target)))
+      HoldsBehind (λ left. GoesTo (NoStray set) (CarriesOver hidden set state) (target_by left (target_of (scene_in p set).here.states x.target)))
       (then_do (block_effect (scene_in p set) x.block w) state_left_for) (then_do (block_effect (scene_in p set) x.block u) state_left_for)
   block-carries set state k x places clause is between w u e =
       let one = is-at (Block set state k) (Action set x.block) state places is refl between in

@@ -8,9 +8,8 @@ use Rattle.snl_flat.specs.declared.starts.Piece.TheVariants.{Entry, Exit, Condit
 use Rattle.snl_flat.specs.Heres.{scene_in}
 use Rattle.snl_flat.specs.Pieces.{PieceTree, Test, Action, clause_at, kept_piece, piece_of, state_at}
 use Rattle.snl_flat.specs.Reached.{Table}
-use Rattle.snl_load.specs.Meaning.{block_meaning, clause_meaning, finished, program_meaning, set_meanings, state_left_for, state_meaning, target_of}
+use Rattle.snl_load.specs.Meaning.{block_meaning, clause_meaning, finished, program_meaning, set_meaning, set_meanings, state_left_for, state_meaning, target_of}
 use Rattle.snl_load.specs.Reached.{if_reached, only_reached, set_reached, states_reached}
-use Rattle.snl_meaning.specs.declared.faults.Fault.{Fault}
 use Rattle.snl_meaning.specs.Effect.{Way, Done, Broken, Continued, Left, Returned, block_effect, held_by}
 use Rattle.snl_meaning.specs.Ran.{Ran, Gives, Faults, also, then_do}
 use Rattle.snl_meaning.specs.World.{World}
@@ -18,8 +17,9 @@ use Rattle.snl_schedule.specs.Turn.{target_by}
 use Rattle.snl_syntax.specs.Expressions.{ExprTree}
 use Rattle.snl_syntax.specs.Programs.{ClauseTree, ProgramTree, StateTree, StateSetTree}
 use Rattle.snl_syntax.specs.Statements.{BlockTree}
-use Rattle.snl_alike.specs.Runs.{ClausesAgree, GoesTo, HoldsBehind, ProgramAgrees, ReceiveAlike, SetsAgree, StateAgrees, StatesAgree}
-use Rattle.snl_alike.specs.TwoRuns.{Agrees, Alike, BothGive, BothFault, FirstLeftOut, SecondLeftOut}
+use Rattle.snl_alike.specs.Runs.{ClausesAgree, GoesTo, HoldsBehind, ProgramAgrees, ReceiveAlike, SetsAgree, StateAgrees, StatesAgree, TellsStrays}
+use Rattle.snl_alike.specs.TwoRuns.{Agrees, Alike, BothGive, BothFault, FirstLeftOut, SecondLeftOut, SecondWrote, Exempt}
+use Rattle.snl_alike.proofs.Words.{wrote-then}
 
 -- A piece is one of a state.
 abbrev pub IsOf : Piece → (state : ℕ) → Type 0
@@ -60,7 +60,7 @@ finished-behind P r s h =
     (subst (λ (x : Ran (Unit {0})). HoldsBehind (λ _. P) (then_do (then_do r state_left_for) drop) x) (dropped s)
     (dropped-behind P (then_do r state_left_for) (then_do s state_left_for) drop (λ o w. refl) h))
 
-module _ (X : Fault → ℕ → Type 0) (T : List ℕ → List ℕ → Type 0) (silent : T [] []) (joined : (a b c d : List ℕ) → T a b → T c d → T (a ++ c) (b ++ d)) where
+module _ (X : Exempt) (T : List ℕ → List ℕ → Type 0) (silent : T [] []) (joined : (a b c d : List ℕ) → T a b → T c d → T (a ++ c) (b ++ d)) where
   module _ (R : World → World → Type 0) where
     -- a condition comes out alike,
     abbrev pub TestAgrees : ProgramTree → (set : ℕ) → ExprTree → Type 0
@@ -85,13 +85,15 @@ module _ (X : Fault → ℕ → Type 0) (T : List ℕ → List ℕ → Type 0) (
         by _ _ (BothFault fault line w u a b e t) = BothFault fault line w u a b e t
         by _ _ (FirstLeftOut fault line w a r out) = FirstLeftOut fault line w a (then_do r drop) out
         by _ _ (SecondLeftOut fault line u b r out) = SecondLeftOut fault line u b (then_do r drop) out
+        by _ _ (SecondWrote r s wrote) = SecondWrote (then_do r drop) (then_do s drop) (wrote-then X s drop wrote)
 
     -- one that may be missing
     block-agrees : (p : ProgramTree) (set : ℕ) (b : Option BlockTree) → ((x : BlockTree) → b ≡ Some x → ActionAgrees p set x) → Agrees X R T (block_meaning (scene_in p set) b)
     block-agrees p set None agrees w u e = BothGive tt w u [] [] e silent
     block-agrees p set (Some b) agrees w u e = finished-alike (block_effect (scene_in p set) b w) (block_effect (scene_in p set) b u) (agrees b refl w u e)
 
-  module _ (E : World → World → Type 0) (In : (set state : ℕ) → World → World → Type 0) (Leaves : (set from to : ℕ) → World → World → Type 0) (p : ProgramTree) (reached : Table) where
+  module _ (E : World → World → Type 0) (In : (set state : ℕ) → World → World → Type 0) (Strays : (set state : ℕ) → Type 0) (Leaves : (set from to : ℕ) → World → World → Type 0)
+      (p : ProgramTree) (reached : Table) where
     -- The pieces that the code has come out alike, those of a state while a state set is in it; behind the block of a clause more is known, by
     -- where it leads, and an exit block keeps that.
     pub record PiecesAgree : Type 0 where
@@ -99,12 +101,12 @@ module _ (X : Fault → ℕ → Type 0) (T : List ℕ → List ℕ → Type 0) (
       pub blocks : (set state : ℕ) (name : Piece) (b : BlockTree) → IsOf name state → kept_piece reached p name ≡ Some (Action set b) → ActionAgrees (In set state) p set b
       pub own : (b : BlockTree) → (p.entry ≡ Some b) ⊎ (p.exit ≡ Some b) → ActionAgrees E p 0 b
       pub leads : (set state k : ℕ) (c : ClauseTree) → clause_at p set state k ≡ Some c → kept_piece reached p (Block set state k) ≡ Some (Action set c.block) → (w u : World) →
-          In set state w u → HoldsBehind (λ left. GoesTo (Leaves set state) (target_by left (target_of (scene_in p set).here.states c.target)))
+          In set state w u → HoldsBehind (λ left. GoesTo (Strays set) (Leaves set state) (target_by left (target_of (scene_in p set).here.states c.target)))
           (then_do (block_effect (scene_in p set) c.block w) state_left_for) (then_do (block_effect (scene_in p set) c.block u) state_left_for)
       pub keeps : (set state to : ℕ) (b : BlockTree) → kept_piece reached p (Exit set state) ≡ Some (Action set b) → (w u : World) → In set state w u → Leaves set state to w u →
           HoldsBehind (λ _. Leaves set state to) (then_do (block_effect (scene_in p set) b w) state_left_for) (then_do (block_effect (scene_in p set) b u) state_left_for)
 
-    module _ (all : PiecesAgree) where
+    module _ (all : PiecesAgree) (tells : (set : ℕ) (g : StateSetTree) → slice_get p.state_sets set ≡ Some g → TellsStrays X Strays (set_reached reached (set_meaning p set g))) where
       module _ (set state : ℕ) (q : StateTree) (at : state_at p set state ≡ Some q) (is : reached set state ≡ true) where
         -- what the code has of a state that is reached
         kept : (name : Piece) (o : Option PieceTree) → (if reached set state then piece_of p name else None) ≡ kept_piece reached p name → piece_of p name ≡ o → kept_piece reached p name ≡ o
@@ -112,7 +114,7 @@ module _ (X : Fault → ℕ → Type 0) (T : List ℕ → List ℕ → Type 0) (
 
         -- its clauses
         clauses-agree : (n : ℕ) (cs : List ClauseTree) → ((i : ℕ) → slice_get cs i ≡ slice_get q.clauses (n + i)) →
-            ClausesAgree X (In set state) (Leaves set state) T (map (clause_meaning (scene_in p set)) cs)
+            ClausesAgree X (In set state) (Strays set) (Leaves set state) T (map (clause_meaning (scene_in p set)) cs)
         clauses-agree n [] here = tt
         clauses-agree n (c ∷ cs) here = (
           record {
@@ -153,7 +155,7 @@ module _ (X : Fault → ℕ → Type 0) (T : List ℕ → List ℕ → Type 0) (
         exit-kept = kept (Exit set state) _ refl (ap (option_and_then (λ (s : StateTree). option_map (Action set) s.exit)) at)
 
         -- all of it
-        state-agrees : StateAgrees X (In set state) (Leaves set state) T (state_meaning (scene_in p set) q)
+        state-agrees : StateAgrees X (In set state) (Strays set) (Leaves set state) T (state_meaning (scene_in p set) q)
         state-agrees = record {
           entry = state-block (Entry set state) q.entry refl (kept (Entry set state) _ refl (ap (option_and_then (λ (s : StateTree). option_map (Action set) s.entry)) at));
           clauses = clauses-agree 0 q.clauses (λ i. ap (slice_get q.clauses) (omega arith));
@@ -163,7 +165,7 @@ module _ (X : Fault → ℕ → Type 0) (T : List ℕ → List ℕ → Type 0) (
 
       -- a state that may be reached or not
       reached-agrees : (set state : ℕ) (q : StateTree) → state_at p set state ≡ Some q → (b : Bool) → reached set state ≡ b →
-          StateAgrees X (In set state) (Leaves set state) T (if_reached b (state_meaning (scene_in p set) q))
+          StateAgrees X (In set state) (Strays set) (Leaves set state) T (if_reached b (state_meaning (scene_in p set) q))
       reached-agrees set state q at true is = state-agrees set state q at is
       reached-agrees set state q at false is = record {
         entry = nothing-agrees (In set state) tt;
@@ -174,7 +176,7 @@ module _ (X : Fault → ℕ → Type 0) (T : List ℕ → List ℕ → Type 0) (
 
       -- states
       states-agree : (set : ℕ) (g : StateSetTree) → slice_get p.state_sets set ≡ Some g → (n : ℕ) (qs : List StateTree) → ((i : ℕ) → slice_get qs i ≡ slice_get g.states (n + i)) →
-          StatesAgree X In Leaves T set n (states_reached (reached set) n (map (state_meaning (scene_in p set)) qs))
+          StatesAgree X In Strays Leaves T set n (states_reached (reached set) n (map (state_meaning (scene_in p set)) qs))
       states-agree set g at n [] here = tt
       states-agree set g at n (q ∷ qs) here = (
         reached-agrees set n q (ap (option_and_then (λ (x : StateSetTree). slice_get x.states n)) at ∙ ap (slice_get g.states) (omega arith) ∙ sym (here 0)) (reached set n) refl,
@@ -183,18 +185,18 @@ module _ (X : Fault → ℕ → Type 0) (T : List ℕ → List ℕ → Type 0) (
 
       -- state sets
       sets-agree : (k : ℕ) (gs : List StateSetTree) → ((i : ℕ) → slice_get gs i ≡ slice_get p.state_sets (k + i)) → k + length gs ≤ length p.state_sets →
-          SetsAgree X In Leaves T (length p.state_sets) (map (set_reached reached) (set_meanings p k gs))
+          SetsAgree X In Strays Leaves T (length p.state_sets) (map (set_reached reached) (set_meanings p k gs))
       sets-agree k [] here within = tt
       sets-agree k (g ∷ gs) here within =
           let low : k < length p.state_sets = omega (arith, within) in
           let at : slice_get p.state_sets k ≡ Some g = ap (slice_get p.state_sets) (omega arith) ∙ sym (here 0) in (
-            (low, states-agree k g at 0 g.states (λ i. ap (slice_get g.states) (omega arith))),
+            record { low = low; states = states-agree k g at 0 g.states (λ i. ap (slice_get g.states) (omega arith)); strays = tells k g at },
             sets-agree (k + 1) gs (λ i. here (suc i) ∙ ap (slice_get p.state_sets) (omega arith)) (omega (arith, within)),
           )
 
       -- a program
       pub program-agrees : (Comes : (channel : ℕ) → List ℤ → Type 0) (ls : List Link) (waits : Bool) → ReceiveAlike Comes E (only_reached reached (program_meaning p ls waits)).links →
-          ProgramAgrees X Comes E In Leaves T (length p.state_sets) (only_reached reached (program_meaning p ls waits))
+          ProgramAgrees X Comes E In Strays Leaves T (length p.state_sets) (only_reached reached (program_meaning p ls waits))
       program-agrees Comes ls waits received = record {
         entry = block-agrees E p 0 p.entry (λ b is. all.own b (inl is));
         exit = block-agrees E p 0 p.exit (λ b is. all.own b (inr is));

@@ -9,7 +9,7 @@ use Rattle.snl_meaning.specs.Words.{OnLink, at_number, at_tie, put_async, put_by
 use Rattle.snl_meaning.specs.World.{Queue, SetMemory, World, copy_of, is_waiting, with_waiting, words_at}
 use Rattle.snl_alike.proofs.Linked.{agrees-spent}
 use Rattle.snl_flows.specs.Fine.{IsPut, IsPutBy}
-use Rattle.snl_flows.specs.LeftOut.{IsLeftOut}
+use Rattle.snl_flows.specs.LeftOut.{left_out}
 use Rattle.snl_flows.specs.Tables.{Flow, Ground, HasLinks, IsSameAt}
 use Rattle.snl_flows.specs.Texts.{IsNamed, SameButValues}
 use Rattle.snl_flows.proofs.Agree.{agree-words}
@@ -152,7 +152,7 @@ module _ (g : Ground) (set : ℕ) (K : Bool → ℕ → Type 0) where
 
   -- a tick
   pub spent-to : (line : ℕ) (w u : World) → Kept g set K w u → AlikeTo {A = Unit {0}} g (SameKept g set K) (spent line w) (spent line u)
-  spent-to line w u e = plain g set K (spent line) (agrees-spent (IsLeftOut g.lines) set (Kept g set K) (SameButValues g.names) (keeps-words g set K) line) w u e
+  spent-to line w u e = plain g set K (spent line) (agrees-spent (left_out g.lines) set (Kept g set K) (SameButValues g.names) (keeps-words g set K) line) w u e
 
 -- ---- calls
 

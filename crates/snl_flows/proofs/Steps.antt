@@ -12,7 +12,7 @@ use Rattle.snl_meaning.specs.Words.{called_with, is_subscript, natural, stored, 
 use Rattle.snl_meaning.specs.World.{World}
 use Rattle.snl_alike.specs.TwoRuns.{Agrees, KeepsAlike}
 use Rattle.snl_flows.specs.Fine.{AreKept, AreTaken, Begins, IsElement, IsFineAt, LeadsAfter, LeadsTo, MayGetOther, Takes}
-use Rattle.snl_flows.specs.LeftOut.{IsLeftOut}
+use Rattle.snl_flows.specs.LeftOut.{left_out}
 use Rattle.snl_flows.specs.Outside.{AreSameAt, has, places_of, IsSameOutside}
 use Rattle.snl_flows.specs.Tables.{Operand, Same, Within, IsSameIn, top_of, below, under, AreAllSame, IsNoMore, AreNoMore, Flow, Ground, IsOpen, IsReached, IsSameAt, MayDiffer, facts_at, is_loose, said_at}
 use Rattle.snl_flows.specs.Texts.{IsInLine, SameButValues}
@@ -147,7 +147,7 @@ module _ (g : Ground) (f : Flow) (c : PieceContext) where
   twice F word x y w u same h = subst (λ (z : ℤ). AlikeTo g F (word x w) (word z u)) same h
 
   -- what needs no word of a variable
-  pub free : (at : ℕ) {A : Type 0} (word : World → Ran A) → (KeepsAlike c.set (At at) (SameButValues g.names) → Agrees (IsLeftOut g.lines) (At at) (SameButValues g.names) word) →
+  pub free : (at : ℕ) {A : Type 0} (word : World → Ran A) → (KeepsAlike c.set (At at) (SameButValues g.names) → Agrees (left_out g.lines) (At at) (SameButValues g.names) word) →
       (w u : World) → At at w u →
       AlikeTo {A = A} g (SameKept g c.set (K at)) (word w) (word u)
   free at word agrees w u e = plain g c.set (K at) word (agrees (keeps-words g c.set (K at))) w u e

@@ -22,7 +22,7 @@ use Rattle.snl_schedule.specs.Event.{line_of}
 use Rattle.snl_syntax.specs.Programs.{ClauseTree, ProgramTree}
 use Rattle.snl_alike.specs.TwoRuns.{Agrees, Alike}
 use Rattle.snl_flows.specs.Quiet.{AreFine}
-use Rattle.snl_flows.specs.LeftOut.{IsLeftOut}
+use Rattle.snl_flows.specs.LeftOut.{IsLeftOut, left_out}
 use Rattle.snl_flows.specs.Outside.{IsSameByState, IsSameOutside, Places, each_always, has, places_for, places_in, places_of}
 use Rattle.snl_flows.specs.Tables.{AreBehind, Flow, Ground, HasLinks, facts_at, first_facts}
 use Rattle.snl_flows.specs.Texts.{IsInLine, SameButValues}
@@ -113,8 +113,8 @@ pub record IsAlike (g : Ground) (w u : World) : Type 0 where
 
 -- A piece comes out alike from such worlds, but for what is left out: a condition with its value, a block with the state that it leaves for.
 abbrev pub PieceFlows : Ground → ProgramTree → PieceTree → Type 0
-PieceFlows g p (Test set e) = Agrees (IsLeftOut g.lines) (IsAlike g) (SameButValues g.names) (held_by (scene_in p set) (Some e))
-PieceFlows g p (Action set b) = Agrees (IsLeftOut g.lines) (IsAlike g) (SameButValues g.names) (λ w. then_do (block_effect (scene_in p set) b w) state_left_for)
+PieceFlows g p (Test set e) = Agrees (left_out g.lines) (IsAlike g) (SameButValues g.names) (held_by (scene_in p set) (Some e))
+PieceFlows g p (Action set b) = Agrees (left_out g.lines) (IsAlike g) (SameButValues g.names) (λ w. then_do (block_effect (scene_in p set) b w) state_left_for)
 
 -- ---- laws
 
@@ -136,7 +136,7 @@ abbrev pub LinesFlow : Type 0
 LinesFlow = (p : ProgramTree) (ls : List Link) (c : Code) (hidden : List Places) (stale lines : List ℕ) (names : List (List ℕ))
     (waits : Bool) (budget ms : ℕ) (event : Event) (w u : World) →
     AreFlowsOf p ls c hidden stale lines names → 0 < length p.state_sets → CanBeIn p ls c w → IsSameByState hidden stale w u →
-    Alike (IsLeftOut lines) (IsSameByState hidden stale) (SameButValues names) (line_of (program_meaning p ls waits) budget ms event w)
+    Alike (left_out lines) (IsSameByState hidden stale) (SameButValues names) (line_of (program_meaning p ls waits) budget ms event w)
     (line_of (program_meaning p ls waits) budget ms event u)
 
 -- With no stale place all that may differ of buffers comes to hidden places: nothing does.
