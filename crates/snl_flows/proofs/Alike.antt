@@ -4,7 +4,7 @@ use Rattle.std.specs.Prelude.{codes, decimal, slice_index_or}
 use Rattle.std.proofs.lemmas.Bool.{false≢true, ltb-true}
 use Rattle.snl_meaning.specs.declared.ties.Tied.{Tied}
 use Rattle.snl_meaning.specs.Frames.{room_in}
-use Rattle.snl_meaning.specs.Links.{buffer_of, is_queued, queue_of, with_buffer, with_elements}
+use Rattle.snl_meaning.specs.Links.{buffer_of, is_queued, queue_of, with_buffer}
 use Rattle.snl_meaning.specs.Printing.{print_line}
 use Rattle.snl_meaning.specs.World.{SetMemory, World, copy_of, no_copy, words_at}
 use Rattle.snl_meaning.proofs.Sizes.{set-many}
@@ -18,11 +18,11 @@ use Rattle.snl_flows.specs.Flows.{IsAlike}
 use Rattle.snl_flows.specs.Outside.{AreSameOutside, IsSameCopy, IsSameOutside, has, places_of}
 use Rattle.snl_flows.specs.Tables.{Ground, room_of}
 use Rattle.snl_flows.specs.Texts.{SameButValues, NoLines}
-use Rattle.snl_flows.proofs.Agree.{agree-overwritten, agree-words}
-use Rattle.snl_flows.proofs.Buffers.{KeepsStale, handed-keeps, refreshed-keeps}
+use Rattle.snl_flows.proofs.Agree.{agree-words}
+use Rattle.snl_flows.proofs.Buffers.{KeepsStale, refreshed-keeps}
 use Rattle.snl_flows.proofs.Links.{links-elements, links-same, links-with, room-is}
 use Rattle.snl_flows.proofs.Texts.{ends-behind, one-line, print-ends, texts-joined}
-use Rattle.snl_flows.proofs.Worlds.{Fresh, Known, SameOn, buffer-change, buffer-comes, copy-change, same-nowhere, same-outside, words-agree, words-change}
+use Rattle.snl_flows.proofs.Worlds.{Fresh, SameOn, buffer-change, buffer-comes, copy-change, same-nowhere, same-outside}
 
 -- ---- lines of a run
 
@@ -59,16 +59,6 @@ module _ (g : Ground) where
   same-line : (line : ℕ → List ℕ) → ((ms : ℕ) → EndsLine (line ms)) → (w u : World) → IsAlike g w u → SameButValues g.names (line w.time) (line u.time)
   same-line line ends w u e =
       subst (λ (ms : ℕ). SameButValues g.names (line w.time) (line ms)) (ap (λ (v : World). v.time) e.outside.same) (one-line g.names (line w.time) (ends w.time))
-
-  -- the same values come to a copy
-  pub elements-come : (set place : ℕ) (zs : List ℤ) (w u : World) → IsAlike g w u → IsAlike g (with_elements set place zs w) (with_elements set place zs u)
-  elements-come set place zs w u e = record {
-    behind = e.behind;
-    links = links-elements g set place zs w e.links;
-    outside = same-outside g set Nowhere (with_elements set place zs w) (with_elements set place zs u)
-        (words-change g set Nowhere Nowhere false _ _ w u (λ k p. p)
-        (agree-overwritten zs (Known g set Nowhere false) _ _ place (words-agree g set Nowhere false w u (bare set w u e.outside))) (bare set w u e.outside));
-  }
 
   -- what comes to links comes alike
   pub flow-stale : KeepsStale g (IsAlike g)
@@ -119,8 +109,6 @@ module _ (g : Ground) where
       links = links-with g r w homes ties channels queues e.links;
       outside = record { same = ap (with_common r) e.outside.same; long = e.outside.long; count = e.outside.count; copies = e.outside.copies; buffers = e.outside.buffers };
     };
-    takes = λ place link item more w u at holds e. elements-come set place item w u e;
-    hands = λ link t zs w u is none e. handed-keeps g (IsAlike g) flow-stale (Some set) link t zs w u e;
     prints = λ name text w u e. same-line (λ ms. print_line ms name text) (λ ms. print-ends ms name text) w u e;
     silent = NoLines;
     joined = texts-joined g.names;

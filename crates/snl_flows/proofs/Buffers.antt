@@ -3,7 +3,7 @@ use Rattle.std.proofs.Common.{◌≡◌, ◌∙◌, ◌+◌, refl, sym, ap, subs
 use Rattle.std.specs.Prelude.{slice_index_or, slice_set}
 use Rattle.snl_meaning.specs.declared.ties.Tied.{Tied}
 use Rattle.snl_meaning.specs.Frames.{room_in}
-use Rattle.snl_meaning.specs.Links.{all_marked, announced, buffer_of, enqueued, flagged, home_of, is_queued, marked, marked_from, no_queue, noticed, put_into, queue_of, with_buffer, with_elements}
+use Rattle.snl_meaning.specs.Links.{all_marked, announced, buffer_of, enqueued, flagged, home_of, is_queued, marked_from, no_queue, noticed, put_into, queue_of, with_buffer, with_elements}
 use Rattle.snl_meaning.specs.Queues.{put_in}
 use Rattle.snl_meaning.specs.World.{Queue, SetMemory, World, words_at}
 use Rattle.snl_meaning.proofs.Sizes.{set-alike}
@@ -55,21 +55,6 @@ module _ (g : Ground) (E : World → World → Type 0) (keeps : KeepsStale g E) 
       E (record w { queues = queues }) (twin (record w { queues = queues }) cs xs bs)
   requeued queues w cs xs bs rooms e =
       keeps.changes (record w { queues = queues }) w cs xs bs refl refl refl refl (links-same g w (record w { queues = queues }) refl refl refl rooms refl (keeps.links w _ e)) e
-
-  -- ---- what is handed over
-
-  -- a link is marked where it is monitored
-  marked-keeps : (but : Option ℕ) (link : ℕ) (t : Tied) → Keeps (marked but link t)
-  marked-keeps but link t = leveled (marked but link t) (λ w cs xs bs e. by w cs xs bs e t.is_monitored)
-    where
-      by : (w : World) (cs : List SetMemory) (xs bs : List ℤ) → E w (twin w cs xs bs) → (b : Bool) →
-          E (if b then all_marked but link w else w) (if b then all_marked but link (twin w cs xs bs) else twin w cs xs bs)
-      by w cs xs bs e true = remarked (marked_from but link 0 w.homes w.marks) w cs xs bs e
-      by w cs xs bs e false = e
-
-  -- numbers come to a link, which is marked
-  pub handed-keeps : (but : Option ℕ) (link : ℕ) (t : Tied) (zs : List ℤ) → Keeps (λ w. marked but link t (with_buffer t zs w))
-  handed-keeps but link t zs w u e = marked-keeps but link t _ _ (keeps.fills t zs w u e)
 
   -- ---- the refresh
 

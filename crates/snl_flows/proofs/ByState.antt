@@ -1,5 +1,5 @@
 -- That two worlds are the same but for what is hidden in their states is a relation that all steps of a run keep.
-use Rattle.std.proofs.Common.{◌≡◌, ◌∙◌, ◌⊎◌, ◌+◌, ◌<◌, inl, ⊎_elim, refl, sym, ap, subst, arith, ℕ, zero, suc, ℤ, pos, Bool, true, false, List, [], ◌∷◌, Some, length, if◌then◌else◌}
+use Rattle.std.proofs.Common.{◌≡◌, ◌∙◌, ◌⊎◌, ◌+◌, ◌<◌, inl, ⊎_elim, refl, sym, ap, subst, arith, ℕ, zero, suc, pos, Bool, true, false, List, [], ◌∷◌, length, if◌then◌else◌}
 use Rattle.std.specs.Prelude.{slice_index_or, slice_set}
 use Rattle.snl_meaning.specs.declared.live.Live.{Live}
 use Rattle.snl_meaning.specs.declared.live.Live.TheVariants.{Waiting, Running, Ended}
@@ -9,13 +9,12 @@ use Rattle.snl_meaning.proofs.Sizes.{set-many}
 use Rattle.snl_schedule.specs.Turn.{entered_in}
 use Rattle.snl_alike.specs.Runs.{AreAlikeInRuns, NothingMore}
 use Rattle.snl_alike.specs.TwoRuns.{KeepsAlike, common_of, with_common}
-use Rattle.snl_alike.proofs.Buffers.{marked-copies}
 use Rattle.snl_flows.specs.Flows.{IsAlike}
 use Rattle.snl_flows.specs.Outside.{IsSameByState, IsSameCopy, IsSameOutside, Places, each_always, has, hidden_in, places_by, places_for, places_in, places_of, places_with}
 use Rattle.snl_flows.specs.Tables.{AreBehind, Ground, HasLinks}
 use Rattle.snl_flows.specs.Texts.{SameButValues}
-use Rattle.snl_flows.proofs.Alike.{elements-come, flow-in-runs, flow-keeps, flow-stale}
-use Rattle.snl_flows.proofs.Buffers.{KeepsStale, handed-keeps, refreshed-keeps}
+use Rattle.snl_flows.proofs.Alike.{flow-in-runs, flow-keeps, flow-stale}
+use Rattle.snl_flows.proofs.Buffers.{KeepsStale, refreshed-keeps}
 use Rattle.snl_flows.proofs.Links.{links-hidden, links-same, links-shown}
 use Rattle.snl_flows.proofs.Meets.{always-at}
 use Rattle.snl_flows.proofs.Pieces.{CarriesOver, less-open}
@@ -149,12 +148,6 @@ module _ (g : Ground) (hidden : List Places) (wide : IsWide hidden) (behind : Ar
     outside = subst (λ (places : List (List ℕ)). IsSameOutside places g.stale x y) (sym same) e.outside;
   }
 
-  -- the same values come to a copy
-  now-elements : (set place : ℕ) (zs : List ℤ) (w u : World) → IsAlikeNow w u → IsAlikeNow (with_elements set place zs w) (with_elements set place zs u)
-  now-elements set place zs w u e =
-      back w (with_elements set place zs w) (with_elements set place zs u) (places-same w.phase hidden _ w.copies (same-states w.copies set _ refl))
-      (elements-come (now w) set place zs w u (to-now w u e))
-
   -- what comes to links comes alike
   pub now-stale : KeepsStale g IsAlikeNow
   now-stale = record {
@@ -177,8 +170,6 @@ module _ (g : Ground) (hidden : List Places) (wide : IsWide hidden) (behind : Ar
     rest_changes = λ r w u phase homes ties channels queues e.
         back w (with_common r w) (with_common r u) (ap (λ (x : Live). places_with x hidden w.copies) phase)
         ((flow-keeps (now w) set).rest_changes r w u phase homes ties channels queues (to-now w u e));
-    takes = λ place link item more w u at holds e. now-elements set place item w u e;
-    hands = λ link t zs w u is none e. handed-keeps g IsAlikeNow now-stale (Some set) link t zs w u e;
     prints = λ name text w u e. (flow-keeps (now w) set).prints name text w u (to-now w u e);
     silent = (flow-keeps g set).silent;
     joined = (flow-keeps g set).joined;
@@ -189,11 +180,6 @@ module _ (g : Ground) (hidden : List Places) (wide : IsWide hidden) (behind : Ar
   keeps-in set state = record {
     rest = λ w u e. ap common_of e.alike.outside.same;
     rest_changes = λ r w u phase homes ties channels queues e. record { alike = (now-keeps set).rest_changes r w u phase homes ties channels queues e.alike; is_in = e.is_in };
-    takes = λ place link item more w u at holds e. record { alike = now-elements set place item w u e.alike; is_in = same-states w.copies set _ refl set ∙ e.is_in };
-    hands = λ link t zs w u is none e. record {
-      alike = (now-keeps set).hands link t zs w u is none e.alike;
-      is_in = ap (λ (cs : List SetMemory). (slice_index_or cs set no_copy).state) (marked-copies (Some set) link t (with_buffer t zs w)) ∙ e.is_in;
-    };
     prints = λ name text w u e. (now-keeps set).prints name text w u e.alike;
     silent = (flow-keeps g set).silent;
     joined = (flow-keeps g set).joined;

@@ -18,14 +18,14 @@ use Rattle.snl_meaning.specs.Words.{adjusted, cleared, element_place, fitted, gi
 use Rattle.snl_meaning.specs.World.{World}
 use Rattle.snl_names.specs.declared.builtins.Query.{Query}
 use Rattle.snl_names.specs.declared.builtins.Query.TheVariants.{EfClear, EfSet, EfTest, EfTestAndClear, PvChannelCount, PvConnectCount, PvConnected, PvFlushQ, PvGet, PvGetQ, PvPutComplete}
-use Rattle.snl_alike.specs.TwoRuns.{FetchesBy}
+use Rattle.snl_alike.specs.TwoRuns.{ComesBy}
 use Rattle.snl_alike.proofs.Linked.{agrees-printed, agrees-asked, agrees-ask_element}
 use Rattle.snl_flows.specs.Fine.{AreRead, Begins, IsAnyElement, IsFineAt, IsFirstSame, IsGot, IsPrinted, LeadsTo, MayBecomeOther, MayOverflowBy, MayOverflowOver, PrefixMayOverflow, Takes, settled_of}
 use Rattle.snl_flows.specs.LeftOut.{left_out}
 use Rattle.snl_flows.specs.Outside.{has}
 use Rattle.snl_flows.specs.Tables.{Operand, Another, Same, Within, IsSameIn, top_of, below, Flow, Ground, HasLinks}
 use Rattle.snl_flows.specs.Texts.{IsNamed, SameButValues}
-use Rattle.snl_flows.proofs.Kept.{KeptLinked, SameKept, keeps-linked, linked, settled-to, waited-to}
+use Rattle.snl_flows.proofs.Kept.{KeptLinked, SameKept, keeps-linked, linked, settled-to, waited-to, takes-linked}
 use Rattle.snl_flows.proofs.Links.{links-elements}
 use Rattle.snl_flows.proofs.Operands.{HoldsOf, HoldOf, all-same, can-be, first-same, same-of}
 use Rattle.snl_flows.proofs.Operators.{fitted-other, operated-other-by, operated-other-over, outcome-to, prefix-other}
@@ -224,7 +224,7 @@ module _ (g : Ground) (f : Flow) (c : PieceContext) where
   -- ---- what is asked
 
   -- the buffer of a link comes to words that may get what is not the same
-  gets : (at place : ℕ) (query : Query) → IsGot g c.set f query place → FetchesBy query c.set place (KeptLinked g c.set (K g f c at))
+  gets : (at place : ℕ) (query : Query) → IsGot g c.set f query place → ComesBy query c.set place (KeptLinked g c.set (K g f c at))
   gets at place PvGet got = λ link t w u found tied e. record {
     links = links-elements g c.set place (buffer_of t w) w e.links;
     kept = buffer-comes g c.set (K g f c at) place t w u
@@ -232,7 +232,7 @@ module _ (g : Ground) (f : Flow) (c : PieceContext) where
         (got link k t (ap (λ (homes : List (List (Option ℕ))). link_from 0 (slice_index_or homes c.set []) place) (sym e.links.homes) ∙ found)
         (ap (λ (ties : List Tied). slice_get ties link) (sym e.links.ties) ∙ tied) low stale) (place + k) known refl) e.kept;
   }
-  gets at place PvGetQ got = tt
+  gets at place PvGetQ got = takes-linked g c.set (K g f c at) place
   gets at place PvFlushQ got = tt
   gets at place PvConnected got = tt
   gets at place PvPutComplete got = tt

@@ -8,13 +8,13 @@ use Rattle.snl_meaning.specs.Printing.{print_line}
 use Rattle.snl_meaning.specs.Ran.{Ran}
 use Rattle.snl_meaning.specs.Words.{noted, settled, waited, waited_until}
 use Rattle.snl_meaning.specs.World.{SetMemory, World, copy_of, no_copy}
-use Rattle.snl_alike.specs.TwoRuns.{Agrees, Alike, BothGive, BothFault, FirstLeftOut, SecondLeftOut, SecondWrote, KeepsAlike, common_of, with_common}
+use Rattle.snl_alike.specs.TwoRuns.{Agrees, Alike, BothGive, BothFault, FirstLeftOut, SecondLeftOut, SecondWrote, KeepsAlike, TakesAlike, common_of, with_common}
 use Rattle.snl_flows.specs.Fine.{settled_of}
 use Rattle.snl_flows.specs.LeftOut.{left_out}
 use Rattle.snl_flows.specs.Tables.{Operand, Another, Same, Within, Ground, HasLinks}
 use Rattle.snl_flows.specs.Texts.{SameButValues, NoLines}
 use Rattle.snl_flows.proofs.Agree.{AgreeOn, agree-overwritten}
-use Rattle.snl_flows.proofs.Links.{links-elements, links-handed, links-with}
+use Rattle.snl_flows.proofs.Links.{links-elements, links-with}
 use Rattle.snl_flows.proofs.Operands.{HoldsOf}
 use Rattle.snl_flows.proofs.Outcomes.{AlikeTo, BothLead, BothStop, FirstStops, SecondStops, lead, test-to}
 use Rattle.snl_flows.proofs.Texts.{one-line, print-ends, texts-joined}
@@ -59,8 +59,6 @@ module _ (g : Ground) (set : ℕ) (K : Bool → ℕ → Type 0) where
     rest = λ w u e. ap common_of e.same;
     rest_changes = λ r w u phase homes ties channels queues e.
         record { same = ap (with_common r) e.same; count = e.count; copies = e.copies; functions = e.functions; buffers = e.buffers };
-    takes = λ place link item more w u at holds e. elements-come place item w u e;
-    hands = λ link t zs w u is none e. handed link t zs w u e;
     prints = λ name text w u e.
         subst (λ (ms : ℕ). SameButValues g.names (print_line w.time name text) (print_line ms name text)) (ap (λ (v : World). v.time) e.same)
         (one-line g.names (print_line w.time name text) (print-ends w.time name text));
@@ -83,12 +81,14 @@ module _ (g : Ground) (set : ℕ) (K : Bool → ℕ → Type 0) where
       links = links-with g r w homes ties channels queues e.links;
       kept = keeps-words.rest_changes r w u phase homes ties channels queues e.kept;
     };
-    takes = λ place link item more w u at holds e. record { links = links-elements g set place item w e.links; kept = elements-come place item w u e.kept };
-    hands = λ link t zs w u is none e. record { links = links-handed g (Some set) link t zs w e.links; kept = handed link t zs w u e.kept };
     prints = λ name text w u e. keeps-words.prints name text w u e.kept;
     silent = keeps-words.silent;
     joined = keeps-words.joined;
   }
+
+  -- an item of a queue comes to the own copy
+  pub takes-linked : (place : ℕ) → TakesAlike set place KeptLinked
+  takes-linked place link item more w u at holds e = record { links = links-elements g set place item w e.links; kept = elements-come place item w u e.kept }
 
   -- what comes out alike
   pub from-alike : {A : Type 0} (E : World → World → Type 0) → ((w u : World) → E w u → Kept w u) → (r s : Ran A) → Alike (left_out g.lines) E (SameButValues g.names) r s → AlikeTo g SameKept r s

@@ -1,9 +1,8 @@
 -- What of a world its links are stays where other words come to it.
-use Rattle.std.proofs.Common.{◌≡◌, ◌∙◌, refl, sym, ap, ℕ, zero, suc, ℤ, Bool, true, false, List, [], ◌∷◌, Option, length, map, if◌then◌else◌}
+use Rattle.std.proofs.Common.{◌≡◌, ◌∙◌, refl, sym, ap, ℕ, zero, suc, ℤ, List, [], ◌∷◌, length, map}
 use Rattle.std.specs.Prelude.{slice_index_or}
-use Rattle.snl_meaning.specs.declared.ties.Tied.{Tied}
 use Rattle.snl_meaning.specs.Frames.{room_in}
-use Rattle.snl_meaning.specs.Links.{all_marked, marked, no_queue, queue_of, with_buffer, with_elements}
+use Rattle.snl_meaning.specs.Links.{no_queue, queue_of, with_elements}
 use Rattle.snl_meaning.specs.World.{Queue, World}
 use Rattle.snl_meaning.proofs.Sizes.{set-many}
 use Rattle.snl_alike.specs.TwoRuns.{Common, with_common}
@@ -30,14 +29,6 @@ module _ (g : Ground) where
   -- values come to a copy
   pub links-elements : (set place : ℕ) (zs : List ℤ) (w : World) → HasLinks g w → HasLinks g (with_elements set place zs w)
   links-elements set place zs w links = links-same w (with_elements set place zs w) refl refl refl refl (set-many w.copies set _) links
-
-  -- numbers come to a link, which is marked
-  pub links-handed : (but : Option ℕ) (link : ℕ) (t : Tied) (zs : List ℤ) (w : World) → HasLinks g w → HasLinks g (marked but link t (with_buffer t zs w))
-  links-handed but link t zs w links = by t.is_monitored
-    where
-      by : (b : Bool) → HasLinks g (if b then all_marked but link (with_buffer t zs w) else with_buffer t zs w)
-      by true = links-same w (all_marked but link (with_buffer t zs w)) refl refl refl refl refl links
-      by false = links-same w (with_buffer t zs w) refl refl refl refl refl links
 
   -- other places may be hidden,
   pub links-hidden : (places : List (List ℕ)) (w : World) → HasLinks g w → HasLinks (record g { hidden = places }) w
