@@ -23,6 +23,8 @@ pub mod Alike
 pub mod Meets
 pub mod ByState
 pub mod Lines
+pub mod Settled
+pub mod SettledLines
 pub mod Nothing
 pub mod Checks
 pub mod Checked

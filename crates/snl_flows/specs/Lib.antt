@@ -5,6 +5,7 @@ pub mod Tables
 pub mod Fine
 pub mod Quiet
 pub mod Flows
+pub mod Settled
 pub mod Checks
 pub mod QuietChecks
 pub mod Examples

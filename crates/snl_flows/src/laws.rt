@@ -4,6 +4,7 @@ ghost use Rattle.snl_flows.specs.QuietChecks.{ChecksAreRight};
 ghost use Rattle.snl_flows.specs.Examples.{FlowsExamples};
 ghost use Rattle.snl_flows.specs.Flows.{LinesFlow, NothingIsLeftOut, NothingIsStale, PiecesFlow};
 ghost use Rattle.snl_flows.specs.Outside.{BuffersAreSame};
+ghost use Rattle.snl_flows.specs.Settled.{LinesSettle};
 
 /// Where tables are right of the code of a program, its pieces come out alike from worlds that are the same outside.
 pub fn pieces_flow()
@@ -13,6 +14,11 @@ pub fn pieces_flow()
 /// So do its lines.
 pub fn lines_flow()
     ensures { LinesFlow }
+{}
+
+/// Where the pieces of a program keep links settled, so do its lines.
+pub fn lines_settle()
+    ensures { LinesSettle }
 {}
 
 /// With no line nothing is left out, and with no name texts are the same.
