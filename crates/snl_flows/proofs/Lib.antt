@@ -23,9 +23,12 @@ pub mod Alike
 pub mod Meets
 pub mod ByState
 pub mod Lines
+pub mod Nothing
 pub mod Settled
 pub mod SettledLines
-pub mod Nothing
+pub mod SettledWords
+pub mod SettledSteps
+pub mod SettledPieces
 pub mod Checks
 pub mod Checked
 pub mod QuietChecked

@@ -25,7 +25,7 @@ use Rattle.snl_flows.specs.Settled.{AreKnown, CanBeFree, IsFree, IsSettled, Layo
 -- ---- words, marks and queues
 
 -- two numbers are one, or are not
-one-or-not : (a b : ℕ) → (a ≡ b) ⊎ (a ≡ b → ⊥)
+pub one-or-not : (a b : ℕ) → (a ≡ b) ⊎ (a ≡ b → ⊥)
 one-or-not a b = by (cases_order a b)
   where
     by : (a ≡ b) ⊎ ((a < b) ⊎ (b < a)) → (a ≡ b) ⊎ (a ≡ b → ⊥)
@@ -34,13 +34,13 @@ one-or-not a b = by (cases_order a b)
     by (inr (inr more)) = inr (λ (same : a ≡ b). omega (arith, same, more))
 
 -- an element of a list of what is looked at
-look-at : {A B : Type 0} (look : A → B) (xs : List A) (i : ℕ) (d : A) → slice_index_or (map look xs) i (look d) ≡ look (slice_index_or xs i d)
+pub look-at : {A B : Type 0} (look : A → B) (xs : List A) (i : ℕ) (d : A) → slice_index_or (map look xs) i (look d) ≡ look (slice_index_or xs i d)
 look-at look [] i d = refl
 look-at look (x ∷ xs) zero d = refl
 look-at look (x ∷ xs) (suc i) d = look-at look xs i d
 
 -- a word of a copy, where numbers come to one elsewhere
-word-away : (set place : ℕ) (zs : List ℤ) (other q : ℕ) (w : World) → ((other ≡ set) → (q < place) ⊎ (place + length zs ≤ q)) →
+pub word-away : (set place : ℕ) (zs : List ℤ) (other q : ℕ) (w : World) → ((other ≡ set) → (q < place) ⊎ (place + length zs ≤ q)) →
     slice_index_or (copy_of other (with_elements set place zs w)).words q (pos 0) ≡ slice_index_or (copy_of other w).words q (pos 0)
 word-away set place zs other q w out = by (set-index w.copies set other new no_copy)
   where
@@ -84,6 +84,7 @@ module _ (free : List ℕ) (values : List (List (List ℤ))) (l : Layout) (can :
   changed r w homes ties channels queues s = record {
     laid = ap (λ (x : List (List (Option ℕ))). record (layout_of (with_common r w)) { homes = x }) homes
         ∙ ap (λ (x : List Tied). record (layout_of (with_common r w)) { homes = w.homes; ties = x }) ties
+        ∙ ap (λ (x : List (List ℕ)). record (layout_of (with_common r w)) { homes = w.homes; ties = w.ties; channels = x }) channels
         ∙ ap (λ (x : List (ℕ × ℕ)). record (layout_of w) { rooms = x }) queues ∙ s.laid;
     buffers = λ link t is. s.buffers link t is;
     copies = λ set link home t is has. s.copies set link home t is has;
@@ -168,6 +169,30 @@ module _ (free : List ℕ) (values : List (List (List ℤ))) (l : Layout) (can :
           by : (j : ℕ) → j < r.count → (other ≡ set) → StandApart home r.count place t.count → (home + j < place) ⊎ (place + length (buffer_of t w) ≤ home + j)
           by j less here (inl before) = inl (omega (arith, less, before))
           by j less here (inr behind) = inr (omega (arith, behind, many))
+
+      -- what is behind it
+      pub filled-settled : Settled filled
+      filled-settled = record {
+        laid = ap layout_in (elements-same set place (buffer_of t w) w) ∙ s.laid;
+        buffers = λ link r is. s.buffers link r is;
+        copies = λ other link home r is has. by other link home r is has (one-or-not other set) (one-or-not link number);
+      }
+        where
+          away : (other link home : ℕ) (r : Tied) → IsFree free l link r → home_at l other link ≡ Some home → ((other ≡ set) × (link ≡ number) → ⊥) →
+              (is_marked other link w ≡ true) ⊎ (elements_at other home r filled ≡ buffer_of r w)
+          away other link home r is has not = ⊎_elim (λ told. inl told) (λ same. inr (filled-others other link home r is has not ∙ same)) (s.copies other link home r is has)
+
+          by : (other link home : ℕ) (r : Tied) → IsFree free l link r → home_at l other link ≡ Some home → (other ≡ set) ⊎ (other ≡ set → ⊥) → (link ≡ number) ⊎ (link ≡ number → ⊥) →
+              (is_marked other link w ≡ true) ⊎ (elements_at other home r filled ≡ buffer_of r w)
+          by other link home r is has (inr elsewhere) which = away other link home r is has (λ both. elsewhere both.0)
+          by other link home r is has (inl here) (inr another) = away other link home r is has (λ both. another both.1)
+          by other link home r is has (inl here) (inl same) =
+              let both : Some r ≡ Some t = sym is.tied ∙ ap (slice_get l.ties) same ∙ tied in
+              let one : r ≡ t = cc in
+              let mine : IsFree free l number t = subst (λ (n : ℕ). IsFree free l n t) same (subst (IsFree free l link) one is) in
+              let own : home_at l set number ≡ Some home = ap (λ (n : ℕ). home_at l n number) (sym here) ∙ ap (home_at l other) (sym same) ∙ has in
+              inr (subst (λ (x : Tied). elements_at other home x filled ≡ buffer_of x w) (sym one)
+              (subst (λ (n : ℕ). elements_at n home t filled ≡ buffer_of t w) (sym here) (filled-own home mine own)))
 
     -- a link
     refreshed-one : Settled (refreshed_link set number t w)

@@ -6,6 +6,7 @@ pub mod Fine
 pub mod Quiet
 pub mod Flows
 pub mod Settled
+pub mod Unwritten
 pub mod Checks
 pub mod QuietChecks
 pub mod Examples

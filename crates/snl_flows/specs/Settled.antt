@@ -26,10 +26,12 @@ use Rattle.snl_flows.specs.Outside.{has}
 -- ---- where the words of links stand
 
 -- How the words of links are laid out in a world: by state set how many words its copy has, and where the elements of each link begin in it;
--- what each link is tied to, and how much its queue can hold; how many words all buffers have; by state set for how many links it has a mark.
+-- the names of its channels, what each link is tied to, and how much its queue can hold; how many words all buffers have; by state set for how
+-- many links it has a mark.
 pub record Layout : Type 0 where
   pub words : List ℕ
   pub homes : List (List (Option ℕ))
+  pub channels : List (List ℕ)
   pub ties : List Tied
   pub rooms : List (ℕ × ℕ)
   pub buffers : ℕ
@@ -40,6 +42,7 @@ abbrev pub layout_in : Frame → Layout
 layout_in f = record {
   words = f.words;
   homes = f.homes;
+  channels = f.channels;
   ties = f.ties;
   rooms = f.queues;
   buffers = f.buffers;
@@ -69,10 +72,11 @@ pub record IsFree (free : List ℕ) (l : Layout) (link : ℕ) (t : Tied) : Type 
   pub listed : has free link ≡ true
   pub tied : slice_get l.ties link ≡ Some t
 
--- Links can be free: each is monitored, has no queue, and has a mark for each state set whose copy has its variable; its words stand apart
--- from those of any other link, in the buffers and in each copy.
+-- Links can be free: each is monitored, has a channel and no queue, and has a mark for each state set whose copy has its variable; its words
+-- stand apart from those of any other link, in the buffers and in each copy.
 pub record CanBeFree (free : List ℕ) (l : Layout) : Type 0 where
   pub monitored : (link : ℕ) (t : Tied) → IsFree free l link t → t.is_monitored ≡ true
+  pub heard : (link : ℕ) (t : Tied) → IsFree free l link t → t.channel ≡ None → ⊥
   pub queueless : (link : ℕ) (t : Tied) → IsFree free l link t → (slice_index_or l.rooms link (0, 0)).0 ≡ 0
   pub within : (link : ℕ) (t : Tied) → IsFree free l link t → t.from + t.count ≤ l.buffers
   pub apart : (link other : ℕ) (t r : Tied) → IsFree free l link t → slice_get l.ties other ≡ Some r → (link ≡ other → ⊥) → StandApart t.from t.count r.from r.count

@@ -5,6 +5,7 @@ ghost use Rattle.snl_flows.specs.Examples.{FlowsExamples};
 ghost use Rattle.snl_flows.specs.Flows.{LinesFlow, NothingIsLeftOut, NothingIsStale, PiecesFlow};
 ghost use Rattle.snl_flows.specs.Outside.{BuffersAreSame};
 ghost use Rattle.snl_flows.specs.Settled.{LinesSettle};
+ghost use Rattle.snl_flows.specs.Unwritten.{PiecesSettle};
 
 /// Where tables are right of the code of a program, its pieces come out alike from worlds that are the same outside.
 pub fn pieces_flow()
@@ -14,6 +15,11 @@ pub fn pieces_flow()
 /// So do its lines.
 pub fn lines_flow()
     ensures { LinesFlow }
+{}
+
+/// Where a table shows that code writes no word of a free link, its pieces keep links settled.
+pub fn pieces_settle()
+    ensures { PiecesSettle }
 {}
 
 /// Where the pieces of a program keep links settled, so do its lines.
