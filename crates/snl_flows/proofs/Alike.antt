@@ -20,6 +20,7 @@ use Rattle.snl_flows.specs.Tables.{Ground, room_of}
 use Rattle.snl_flows.specs.Texts.{SameButValues, NoLines}
 use Rattle.snl_flows.proofs.Agree.{agree-words}
 use Rattle.snl_flows.proofs.Buffers.{KeepsStale, refreshed-keeps}
+use Rattle.snl_flows.proofs.Joined.{buffer-other}
 use Rattle.snl_flows.proofs.Links.{links-elements, links-same, links-with, room-is}
 use Rattle.snl_flows.proofs.Texts.{ends-behind, one-line, print-ends, texts-joined}
 use Rattle.snl_flows.proofs.Worlds.{Fresh, SameOn, buffer-change, buffer-comes, copy-change, same-nowhere, same-outside}
@@ -87,6 +88,11 @@ module _ (g : Ground) where
       behind = e.behind;
       links = links-same g w (with_buffer t zs w) refl refl refl refl refl e.links;
       outside = same-outside g 0 Nowhere _ _ (buffer-change g 0 Nowhere t zs w u (bare 0 w u e.outside));
+    };
+    others = λ t zs ys w u few less stale e. record {
+      behind = e.behind;
+      links = links-same g w (with_buffer t zs w) refl refl refl refl refl e.links;
+      outside = same-outside g 0 Nowhere _ _ (buffer-other g 0 Nowhere t zs ys w u few less stale (bare 0 w u e.outside));
     };
     queues = queued-same;
   }

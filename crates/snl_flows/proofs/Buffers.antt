@@ -1,5 +1,5 @@
 -- What comes to links comes alike to worlds that are the same but for what may differ of buffers.
-use Rattle.std.proofs.Common.{◌≡◌, ◌∙◌, ◌+◌, refl, sym, ap, subst, arith, ℕ, suc, ℤ, Bool, true, false, List, [], ◌∷◌, Option, None, Some, map, slice_get, take, if◌then◌else◌}
+use Rattle.std.proofs.Common.{◌≡◌, ◌∙◌, ◌+◌, ◌≤◌, ◌<◌, refl, sym, ap, subst, arith, ℕ, zero, suc, ℤ, Bool, true, false, List, [], ◌∷◌, Option, None, Some, length, map, slice_get, take, if◌then◌else◌}
 use Rattle.std.specs.Prelude.{slice_index_or, slice_set}
 use Rattle.snl_meaning.specs.declared.ties.Tied.{Tied}
 use Rattle.snl_meaning.specs.Frames.{room_in}
@@ -7,14 +7,23 @@ use Rattle.snl_meaning.specs.Links.{all_marked, announced, buffer_of, enqueued, 
 use Rattle.snl_meaning.specs.Queues.{put_in}
 use Rattle.snl_meaning.specs.World.{Queue, SetMemory, World, words_at}
 use Rattle.snl_meaning.proofs.Sizes.{set-alike}
-use Rattle.snl_schedule.specs.Arrivals.{is_of, received_link}
+use Rattle.snl_schedule.specs.Arrivals.{is_of, received_from, received_link}
 use Rattle.snl_schedule.specs.Refresh.{copied_to, is_marked, refreshed, refreshed_from, refreshed_link, with_mark}
+use Rattle.snl_flows.specs.Flows.{IsStaleChannel}
+use Rattle.snl_flows.specs.Outside.{has}
 use Rattle.snl_flows.specs.Tables.{Ground, HasLinks}
 use Rattle.snl_flows.proofs.Links.{links-same}
 
+-- so many of some numbers are no more
+take-few : (n : ℕ) (zs : List ℤ) → length (take n zs) ≤ n
+take-few zero zs = omega arith
+take-few (suc n) [] = omega arith
+take-few (suc n) (z ∷ zs) = let rest : length (take n zs) ≤ n = take-few n zs in omega (arith, rest)
+
 -- Two worlds have the links of a program, and are the same but for their copies, for words of functions and for buffers. They stay alike
 -- where all else is changed to the same, but for how far the program has come and for what links are; where the buffer of a link comes to
--- a copy that has it; and where the same numbers come to a buffer. What queues get from buffers is the same.
+-- a copy that has it; and where the same numbers come to a buffer, or any to one of which all may differ. What queues get from buffers is
+-- the same.
 pub record KeepsStale (g : Ground) (E : World → World → Type 0) : Type 0 where
   pub links : (w u : World) → E w u → HasLinks g w
   pub same : (w u : World) → E w u → record w { copies = u.copies; shared = u.shared; buffers = u.buffers } ≡ u
@@ -23,6 +32,8 @@ pub record KeepsStale (g : Ground) (E : World → World → Type 0) : Type 0 whe
   pub comes : (set link home : ℕ) (t : Tied) (w u : World) → slice_get g.ties link ≡ Some t → slice_index_or (slice_index_or g.homes set []) link None ≡ Some home → E w u →
       E (with_elements set home (buffer_of t w) w) (with_elements set home (buffer_of t u) u)
   pub fills : (t : Tied) (zs : List ℤ) (w u : World) → E w u → E (with_buffer t zs w) (with_buffer t zs u)
+  pub others : (t : Tied) (zs ys : List ℤ) (w u : World) → length zs ≤ t.count → length ys ≤ t.count → ((k : ℕ) → k < t.count → has g.stale (t.from + k) ≡ true) → E w u →
+      E (with_buffer t zs w) (with_buffer t ys u)
   pub queues : (link : ℕ) (t : Tied) (w u : World) → slice_get g.ties link ≡ Some t → is_queued link w ≡ true → E w u →
       words_at w.buffers t.from (queue_of link w).width ≡ words_at u.buffers t.from (queue_of link w).width
 
@@ -49,6 +60,11 @@ module _ (g : Ground) (E : World → World → Type 0) (keeps : KeepsStale g E) 
   reflagged : (flags : List Bool) (w : World) (cs : List SetMemory) (xs bs : List ℤ) → E w (twin w cs xs bs) → E (record w { flags = flags }) (twin (record w { flags = flags }) cs xs bs)
   reflagged flags w cs xs bs e =
       keeps.changes (record w { flags = flags }) w cs xs bs refl refl refl refl (links-same g w (record w { flags = flags }) refl refl refl refl refl (keeps.links w _ e)) e
+
+  -- other channels that were valued
+  revalued : (valued : List Bool) (w : World) (cs : List SetMemory) (xs bs : List ℤ) → E w (twin w cs xs bs) → E (record w { valued = valued }) (twin (record w { valued = valued }) cs xs bs)
+  revalued valued w cs xs bs e =
+      keeps.changes (record w { valued = valued }) w cs xs bs refl refl refl refl (links-same g w (record w { valued = valued }) refl refl refl refl refl (keeps.links w _ e)) e
 
   -- queues that can hold as much
   requeued : (queues : List Queue) (w : World) (cs : List SetMemory) (xs bs : List ℤ) → map room_in queues ≡ map room_in w.queues → E w (twin w cs xs bs) →
@@ -133,3 +149,31 @@ module _ (g : Ground) (E : World → World → Type 0) (keeps : KeepsStale g E) 
       by : (b : Bool) → E (if b then noticed link t (with_buffer t (take t.count values) w) else w) (if b then noticed link t (with_buffer t (take t.count values) u) else u)
       by true = noticed-keeps link t at _ _ (keeps.fills t (take t.count values) w u e)
       by false = e
+
+  -- ---- other values of a channel
+
+  module _ (channel : ℕ) (zs ys : List ℤ) (stale : IsStaleChannel g channel) where
+    -- each come at a link
+    others-keep : (link : ℕ) (t : Tied) → slice_get g.ties link ≡ Some t → (w u : World) → E w u → E (received_link channel zs link t w) (received_link channel ys link t u)
+    others-keep link t at w u e = by (is_of channel t) refl
+      where
+        by : (b : Bool) → is_of channel t ≡ b → E (if b then noticed link t (with_buffer t (take t.count zs) w) else w) (if b then noticed link t (with_buffer t (take t.count ys) u) else u)
+        by true is =
+            noticed-keeps link t at _ _
+            (keeps.others t (take t.count zs) (take t.count ys) w u (take-few t.count zs) (take-few t.count ys) (λ k low. stale link k t at is low) e)
+        by false is = e
+
+    -- at links from a number on
+    all-keep : (number : ℕ) (ts : List Tied) → ((i : ℕ) → slice_get ts i ≡ slice_get g.ties (number + i)) → (w u : World) → E w u →
+        E (received_from channel zs number ts w) (received_from channel ys number ts u)
+    all-keep number [] here = λ w u e. e
+    all-keep number (t ∷ ts) here = λ w u e.
+        let at : slice_get g.ties number ≡ Some t = ap (slice_get g.ties) (let k : number ≡ number + 0 = omega arith in k) ∙ sym (here 0) in
+        all-keep (number + 1) ts (λ i. here (suc i) ∙ ap (slice_get g.ties) (let k : number + suc i ≡ number + 1 + i = omega arith in k)) _ _ (others-keep number t at w u e)
+
+    -- at all links
+    pub values-keep : (w u : World) → E w u → E (received_from channel zs 0 g.ties (record w { valued = slice_set w.valued channel true }))
+        (received_from channel ys 0 g.ties (record u { valued = slice_set u.valued channel true }))
+    values-keep w u e =
+        all-keep 0 g.ties (λ i. ap (slice_get g.ties) (let k : i ≡ 0 + i = omega arith in k)) _ _
+        (leveled (λ x. record x { valued = slice_set x.valued channel true }) (λ x cs xs bs k. revalued (slice_set x.valued channel true) x cs xs bs k) w u e)

@@ -160,6 +160,7 @@ module _ (g : Ground) (hidden : List Places) (wide : IsWide hidden) (behind : Ar
         back w (with_elements set home (buffer_of t w) w) (with_elements set home (buffer_of t u) u) (places-same w.phase hidden _ w.copies (same-states w.copies set _ refl))
         ((flow-stale (now w)).comes set link home t w u at begins (to-now w u e));
     fills = λ t zs w u e. back w (with_buffer t zs w) (with_buffer t zs u) refl ((flow-stale (now w)).fills t zs w u (to-now w u e));
+    others = λ t zs ys w u few less stale e. back w (with_buffer t zs w) (with_buffer t ys u) refl ((flow-stale (now w)).others t zs ys w u few less stale (to-now w u e));
     queues = λ link t w u at some e. (flow-stale (now w)).queues link t w u at some (to-now w u e);
   }
 

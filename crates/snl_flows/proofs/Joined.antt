@@ -1,8 +1,12 @@
 -- Worlds that are the same outside and at some words: each is so as itself, the other way round, and by a third one.
-use Rattle.std.proofs.Common.{◌≡◌, ◌∙◌, refl, sym, ap, subst, ℕ, zero, suc, ℤ, pos, Bool, true, false, List, [], ◌∷◌}
+use Rattle.std.proofs.Common.{◌≡◌, ◌∙◌, ◌+◌, ◌≤◌, ◌<◌, refl, sym, ap, subst, arith, ℕ, zero, suc, ℤ, pos, Bool, true, false, List, [], ◌∷◌, length}
 use Rattle.std.specs.Prelude.{slice_index_or, slice_set}
-use Rattle.snl_meaning.specs.World.{SetMemory, World, copy_of, no_copy, words_for, with_words_for}
+use Rattle.std.proofs.lemmas.Bool.{false≢true}
+use Rattle.snl_meaning.specs.declared.ties.Tied.{Tied}
+use Rattle.snl_meaning.specs.Links.{with_buffer}
+use Rattle.snl_meaning.specs.World.{SetMemory, World, copy_of, no_copy, overwritten, words_for, with_words_for}
 use Rattle.snl_meaning.proofs.Sizes.{set-many}
+use Rattle.snl_flows.specs.Outside.{has}
 use Rattle.snl_flows.specs.Tables.{Ground}
 use Rattle.snl_flows.proofs.Agree.{AgreeOn, agree-same}
 use Rattle.snl_flows.proofs.Worlds.{CopiesAgree, Fresh, Known, Own, SameOn, words-change}
@@ -28,6 +32,20 @@ set-leaves (x ∷ xs) (suc i) (suc j) a other = set-leaves xs i j a (λ (e : j �
 -- where nothing is said of it, what is said stays so
 pub agree-one : (P : ℕ → Type 0) (xs : List ℤ) (i : ℕ) (a : ℤ) → ((k : ℕ) → P k → k ≡ i → ⊥) → AgreeOn P xs (slice_set xs i a)
 agree-one P xs i a apart = record { long = sym (set-many xs i a); at = λ k p. sym (set-leaves xs i k a (apart k p)) }
+
+-- so it is of words from a place on
+pub agree-written : (zs : List ℤ) (P : ℕ → Type 0) (xs : List ℤ) (place : ℕ) → ((k : ℕ) → k < length zs → P (place + k) → ⊥) → AgreeOn P xs (overwritten xs place zs)
+agree-written [] P xs place apart = agree-same P xs
+agree-written (z ∷ zs) P xs place apart =
+    agree-joined P xs (slice_set xs place z) (overwritten (slice_set xs place z) (suc place) zs)
+    (agree-one P xs place z (λ k known here. apart 0 (omega arith) (subst P (first k place here) known)))
+    (agree-written zs P (slice_set xs place z) (suc place) (λ k low known. apart (suc k) (omega (arith, low)) (subst P (shifted place k) known)))
+  where
+    first : (k place : ℕ) → k ≡ place → k ≡ place + 0
+    first k place here = omega (arith, here)
+
+    shifted : (place k : ℕ) → suc place + k ≡ place + suc k
+    shifted place k = omega arith
 
 -- a copy that is set to what it is
 set-own : (cs : List SetMemory) (i : ℕ) → slice_set cs i (slice_index_or cs i no_copy) ≡ cs
@@ -85,3 +103,21 @@ module _ (g : Ground) (set : ℕ) (K : Bool → ℕ → Type 0) where
       own : (c : Bool) → with_words_for set c (words_for set c w) w ≡ w
       own true = refl
       own false = ap (λ (cs : List SetMemory). record w { copies = cs }) (set-own w.copies set)
+
+  -- numbers come to the buffer of a link of which all may differ, others in each world
+  pub buffer-other : (t : Tied) (zs ys : List ℤ) (w u : World) → length zs ≤ t.count → length ys ≤ t.count → ((k : ℕ) → k < t.count → has g.stale (t.from + k) ≡ true) → SameOn g set K w u →
+      SameOn g set K (with_buffer t zs w) (with_buffer t ys u)
+  buffer-other t zs ys w u few less stale e = record {
+    same = ap (with_buffer t ys) e.same;
+    count = e.count;
+    copies = e.copies;
+    functions = e.functions;
+    buffers =
+        let F : ℕ → Type 0 = Fresh g set in
+        agree-joined F (overwritten w.buffers t.from zs) w.buffers (overwritten u.buffers t.from ys)
+        (agree-back F w.buffers (overwritten w.buffers t.from zs) (agree-written zs F w.buffers t.from (λ k low. never k (omega (arith, low, few)))))
+        (agree-joined F w.buffers u.buffers (overwritten u.buffers t.from ys) e.buffers (agree-written ys F u.buffers t.from (λ k low. never k (omega (arith, low, less)))));
+  }
+    where
+      never : (k : ℕ) → k < t.count → Fresh g set (t.from + k) → ⊥
+      never k low fresh = false≢true (sym fresh ∙ stale k low)

@@ -24,6 +24,7 @@ pub mod Meets
 pub mod ByState
 pub mod Lines
 pub mod Nothing
+pub mod LineLaws
 pub mod Settled
 pub mod SettledLines
 pub mod SettledWords

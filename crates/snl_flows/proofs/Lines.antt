@@ -7,7 +7,6 @@ use Rattle.snl_channels.specs.Links.{Link}
 use Rattle.snl_flat.specs.declared.code.Code.{Code}
 use Rattle.snl_flat.specs.declared.starts.Piece.{Piece}
 use Rattle.snl_flat.specs.declared.starts.Piece.TheVariants.{ProgramEntry, ProgramExit, Entry, Exit, Condition, Block}
-use Rattle.snl_flat.specs.Copies.{held_sets}
 use Rattle.snl_flat.specs.Heres.{for_each_set, placed_in, routines_in, scene_in}
 use Rattle.snl_flat.specs.Pieces.{Test, Action, kept_piece}
 use Rattle.snl_flat.specs.Reached.{Table}
@@ -15,24 +14,20 @@ use Rattle.snl_flat.specs.Starts.{holds_in, table_of}
 use Rattle.snl_load.specs.Meaning.{program_meaning, set_meaning, state_left_for, target_of}
 use Rattle.snl_load.specs.Places.{home_in, placed_sets}
 use Rattle.snl_load.specs.Reached.{only_reached, set_reached}
-use Rattle.snl_machine.specs.Reached.{AreReached, IsIn}
-use Rattle.snl_machine.specs.Snapshots.{CanBeIn}
-use Rattle.snl_machine.proofs.Reached.{reached_are_closed, unreached_do_nothing}
 use Rattle.snl_machine.proofs.States.{pieces-stay}
 use Rattle.snl_meaning.specs.declared.live.Live.{Live}
 use Rattle.snl_meaning.specs.declared.live.Live.TheVariants.{Waiting}
 use Rattle.snl_meaning.specs.Effect.{block_effect, held_by}
-use Rattle.snl_meaning.specs.Frames.{Frame}
 use Rattle.snl_meaning.specs.Keeping.{world_after}
 use Rattle.snl_meaning.specs.declared.names.Placed.{Placed}
-use Rattle.snl_meaning.specs.Names.{words_of}
 use Rattle.snl_meaning.specs.Ran.{Ran, Gives, Faults, then_do}
-use Rattle.snl_meaning.specs.World.{SetMemory, World, copy_of}
+use Rattle.snl_meaning.specs.World.{World, copy_of}
 use Rattle.snl_meaning.proofs.Frames.{pieces_keep_the_frame}
 use Rattle.snl_meaning.proofs.Keeping.{pieces_keep_the_phase}
-use Rattle.snl_names.specs.Variables.{CopyVariable, variables_of}
 use Rattle.snl_schedule.specs.declared.events.Event.{Event}
-use Rattle.snl_schedule.specs.Event.{line_of}
+use Rattle.snl_schedule.specs.declared.events.Event.TheVariants.{Val}
+use Rattle.snl_schedule.specs.Arrivals.{received}
+use Rattle.snl_schedule.specs.Event.{applied, line_of}
 use Rattle.snl_schedule.specs.Instant.{Program}
 use Rattle.snl_schedule.specs.Turn.{target_by}
 use Rattle.snl_syntax.specs.Expressions.{ExprTree}
@@ -40,15 +35,15 @@ use Rattle.snl_syntax.specs.Programs.{ProgramTree, StateSetTree}
 use Rattle.snl_syntax.specs.Statements.{BlockTree}
 use Rattle.snl_alike.specs.Runs.{AnyComes, AreAlikeInRuns, HoldsBehind, NothingMore, StartAgrees, NoStray, TellsStrays}
 use Rattle.snl_alike.specs.TwoRuns.{Alike, BothGive, BothFault, FirstLeftOut, SecondLeftOut, SecondWrote, Exempt}
-use Rattle.snl_alike.proofs.Instants.{line-alike, started-alike}
+use Rattle.snl_alike.proofs.Instants.{line-alike, lines-alike, started-alike}
 use Rattle.snl_alike.proofs.Programs.{any-comes, nothing-behind, nothing-there}
-use Rattle.snl_flows.specs.Flows.{AreFlowsOf, IsAlike, IsBetween, LinesFlow, RunsIn, ground_of}
+use Rattle.snl_flows.specs.Flows.{AreFlowsOf, AreStaleValues, IsAlike, IsBetween, RunsIn, ground_of}
 use Rattle.snl_flows.specs.LeftOut.{left_out}
-use Rattle.snl_flows.specs.Outside.{IsSameByState, Places, each_always, has, hidden_in, places_by, places_for, places_in, places_of}
-use Rattle.snl_flows.specs.Tables.{AreBehind, Ground, HasLinks}
+use Rattle.snl_flows.specs.Outside.{Places, each_always, has, hidden_in, places_by, places_for, places_in, places_of}
+use Rattle.snl_flows.specs.Tables.{AreBehind, Ground}
 use Rattle.snl_flows.specs.Texts.{SameButValues, NoLines}
 use Rattle.snl_flows.proofs.Alike.{flow-in-runs, flow-stale}
-use Rattle.snl_flows.proofs.Buffers.{received-keeps}
+use Rattle.snl_flows.proofs.Buffers.{received-keeps, values-keep}
 use Rattle.snl_flows.proofs.ByState.{AreInSame, IsAlikeIn, IsAlikeNow, back, by-wide, in-state, now-stale, place-at, places-same, relisted, state-in-runs, to-now}
 use Rattle.snl_flows.proofs.Links.{links-hidden, links-shown}
 use Rattle.snl_flows.proofs.Meets.{always-at, beyond, meet, meet-both, meet-has, met, met-open, met-own}
@@ -70,11 +65,11 @@ runs-of hidden ProgramExit state is = absurd is
 
 module _ (p : ProgramTree) (ls : List Link) (c : Code) (hidden : List Places) (stale lines : List ℕ) (names : List (List ℕ)) (right : AreFlowsOf p ls c hidden stale lines names) where
   -- what holds for all state sets, where nothing is hidden
-  abbrev ground : Ground
+  abbrev pub ground : Ground
   ground = ground_of p ls c [] stale lines names
 
   -- two worlds that are the same but for what is hidden in their states,
-  abbrev Now : World → World → Type 0
+  abbrev pub Now : World → World → Type 0
   Now = IsAlikeNow ground hidden right.wide right.behind
 
   -- while a state set is in a state,
@@ -86,15 +81,15 @@ module _ (p : ProgramTree) (ls : List Link) (c : Code) (hidden : List Places) (s
   always = record ground { hidden = each_always hidden }
 
   -- texts that are the same
-  abbrev Texts : List ℕ → List ℕ → Type 0
+  abbrev pub Texts : List ℕ → List ℕ → Type 0
   Texts = SameButValues names
 
   -- what is exempt
-  abbrev Out : Exempt
+  abbrev pub Out : Exempt
   Out = left_out lines
 
   -- the states that a run can come to
-  abbrev reached : Table
+  abbrev pub reached : Table
   reached = holds_in (table_of c)
 
   -- ---- what pieces keep
@@ -302,7 +297,7 @@ module _ (p : ProgramTree) (ls : List Link) (c : Code) (hidden : List Places) (s
     as-many = sym (length-map (placed_sets p 0 p.state_sets) (λ places. map (home_in places) ls) ∙ sets-many (placed_in p) 0 p.state_sets)
 
     -- the program without what it never reaches
-    abbrev program : Program
+    abbrev pub program : Program
     program = only_reached reached (program_meaning p ls waits)
 
     -- what runs keep, by states
@@ -351,54 +346,25 @@ module _ (p : ProgramTree) (ls : List Link) (c : Code) (hidden : List Places) (s
         (λ set low x y k. always-runs.enters set (copy_of set x).state 0 true low (inl refl) x y k tt) w u (to-always w u waiting e))
 
     -- a line without what is never reached
-    line-now : (budget ms : ℕ) (event : Event) (w u : World) → Now w u → Alike Out Now Texts (line_of program budget ms event w) (line_of program budget ms event u)
+    pub line-now : (budget ms : ℕ) (event : Event) (w u : World) → Now w u → Alike Out Now Texts (line_of program budget ms event w) (line_of program budget ms event u)
     line-now budget ms event w u e =
         line-alike Out (length p.state_sets) (λ n m. n ≡ m) Now In (CarriesOver hidden) Texts now-runs AnyComes NoStray program
         (program-agrees Out Texts NoLines (texts-joined names) Now In NoStray (CarriesOver hidden) p reached pieces-now none-stray AnyComes ls waits
         (λ channel values link t x y may is k. received-keeps ground Now (now-stale ground hidden right.wide right.behind) channel values link t is x y k))
         start-now budget ms ms refl event (any-comes event) w u e
 
-  -- what is known of links is let go
-  let-go : {A : Type 0} (r s : Ran A) → Alike Out Now Texts r s → Alike Out (IsSameByState hidden stale) Texts r s
-  let-go _ _ (BothGive v w u a b e t) = BothGive v w u a b e.outside t
-  let-go _ _ (BothFault fault line w u a b e t) = BothFault fault line w u a b e.outside t
-  let-go _ _ (FirstLeftOut fault line w a r out) = FirstLeftOut fault line w a r out
-  let-go _ _ (SecondLeftOut fault line u b r out) = SecondLeftOut fault line u b r out
-  let-go _ _ (SecondWrote r s never) = SecondWrote r s never
+    -- events that bring values of a channel of which all may differ
+    stale-values : (event other : Event) → AreStaleValues ground event other → (w u : World) → Now w u → Now (applied program event w) (applied program other u)
+    stale-values (Val channel values) (Val same others) is w u e =
+        subst (λ (n : ℕ). Now (received program channel values.items w) (received program n others.items u)) is.0
+        (values-keep ground Now (now-stale ground hidden right.wide right.behind) channel values.items others.items is.1 w u e)
+    stale-values _ _ is w u e = absurd is
 
-  -- states that a run can come to are so in the second world, too
-  reached-in-both : (w u : World) → IsSameByState hidden stale w u → AreReached p reached w → AreReached p reached u
-  reached-in-both w u e at going set = subst (IsIn p reached set) (e.copies set).state (at (λ ended. going (sym (ap (λ (v : World). v.phase) e.same) ∙ ended)) set)
-
-  -- in the first world a machine of the program can be
-  linked : (w : World) → CanBeIn p ls c w → HasLinks ground w
-  linked w can = record {
-    channels = ap (λ (r : Frame). r.channels) can.world_is.frame_is;
-    ties = ap (λ (r : Frame). r.ties) can.world_is.frame_is;
-    homes = ap (λ (r : Frame). r.homes) can.world_is.frame_is;
-    rooms = ap (λ (r : Frame). r.queues) can.world_is.frame_is;
-    many = sym (length-map w.copies (λ (x : SetMemory). length x.words)) ∙ ap (λ (r : Frame). length r.words) can.world_is.frame_is
-        ∙ length-map (held_sets p 0 p.state_sets) words_of ∙ held-many (variables_of p) 0 p.state_sets
-        ∙ sym (length-map (placed_sets p 0 p.state_sets) (λ places. map (home_in places) ls) ∙ placed-many (placed_in p) 0 p.state_sets);
-  }
-    where
-      held-many : (f : ℕ → List CopyVariable) (k : ℕ) (gs : List StateSetTree) → length (for_each_set f k gs) ≡ length gs
-      held-many f k [] = refl
-      held-many f k (x ∷ gs) = ap suc (held-many f (k + 1) gs)
-
-      placed-many : (f : ℕ → List Placed) (k : ℕ) (gs : List StateSetTree) → length (for_each_set f k gs) ≡ length gs
-      placed-many f k [] = refl
-      placed-many f k (x ∷ gs) = ap suc (placed-many f (k + 1) gs)
-
--- the law
-pub lines_flow : LinesFlow
-lines_flow p ls c hidden stale lines names waits budget ms event w u right some can e =
-    let reached = holds_in (table_of c) in
-    let closed = reached_are_closed p reached right.code.reached in
-    let there : AreReached p reached u = reached-in-both p ls c hidden stale lines names right w u e can.reached in
-    let less : World → Ran Live = λ x. line_of (only_reached reached (program_meaning p ls waits)) budget ms event x in
-    let both = line-now p ls c hidden stale lines names right waits some budget ms event w u (record { links = linked p ls c hidden stale lines names right w can; outside = e }) in
-    subst (λ (r : Ran Live). Alike (left_out lines) (IsSameByState hidden stale) (SameButValues names) r (line_of (program_meaning p ls waits) budget ms event u))
-    (unreached_do_nothing p ls waits reached budget ms event w closed can.reached)
-    (subst (λ (r : Ran Live). Alike (left_out lines) (IsSameByState hidden stale) (SameButValues names) (less w) r) (unreached_do_nothing p ls waits reached budget ms event u closed there)
-    (let-go p ls c hidden stale lines names right (less w) (less u) both))
+    -- lines with them
+    pub others-now : (budget ms : ℕ) (event other : Event) → AreStaleValues ground event other → (w u : World) → Now w u →
+        Alike Out Now Texts (line_of program budget ms event w) (line_of program budget ms other u)
+    others-now budget ms event other is w u e =
+        lines-alike Out (length p.state_sets) (λ n m. n ≡ m) Now In (CarriesOver hidden) Texts now-runs AnyComes NoStray program
+        (program-agrees Out Texts NoLines (texts-joined names) Now In NoStray (CarriesOver hidden) p reached pieces-now none-stray AnyComes ls waits
+        (λ channel values link t x y may is k. received-keeps ground Now (now-stale ground hidden right.wide right.behind) channel values link t is x y k))
+        start-now budget ms ms refl event other (stale-values event other is) w u e

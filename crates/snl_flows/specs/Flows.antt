@@ -1,5 +1,5 @@
 -- What tables have to be for a program, and what holds of the program then.
-use Rattle.std.specs.Prelude.{◌≡◌, ◌<◌, ℕ, Bool, true, false, List, [], Some, length, map, slice_get}
+use Rattle.std.specs.Prelude.{◌≡◌, ◌+◌, ◌<◌, ℕ, Bool, true, false, List, [], Some, length, map, slice_get}
 use Rattle.snl_channels.specs.Links.{Link}
 use Rattle.snl_flat.specs.declared.code.Code.{Code}
 use Rattle.snl_flat.specs.declared.starts.Piece.{Piece}
@@ -13,9 +13,12 @@ use Rattle.snl_machine.specs.Snapshots.{CanBeIn}
 use Rattle.snl_meaning.specs.declared.faults.Fault.{Fault}
 use Rattle.snl_meaning.specs.Effect.{block_effect, held_by}
 use Rattle.snl_meaning.specs.declared.instrs.Instr.{Instr}
+use Rattle.snl_meaning.specs.declared.ties.Tied.{Tied}
 use Rattle.snl_meaning.specs.Ran.{then_do}
 use Rattle.snl_meaning.specs.World.{World}
+use Rattle.snl_schedule.specs.Arrivals.{is_of}
 use Rattle.snl_schedule.specs.declared.events.Event.{Event}
+use Rattle.snl_schedule.specs.declared.events.Event.TheVariants.{Val}
 use Rattle.snl_schedule.specs.declared.plans.Destination.{Destination}
 use Rattle.snl_schedule.specs.declared.plans.Destination.TheVariants as to
 use Rattle.snl_schedule.specs.Event.{line_of}
@@ -138,6 +141,24 @@ LinesFlow = (p : ProgramTree) (ls : List Link) (c : Code) (hidden : List Places)
     AreFlowsOf p ls c hidden stale lines names → 0 < length p.state_sets → CanBeIn p ls c w → IsSameByState hidden stale w u →
     Alike (left_out lines) (IsSameByState hidden stale) (SameButValues names) (line_of (program_meaning p ls waits) budget ms event w)
     (line_of (program_meaning p ls waits) budget ms event u)
+
+-- All elements of each link of a channel are stale.
+abbrev pub IsStaleChannel : Ground → (channel : ℕ) → Type 0
+IsStaleChannel g channel = (link e : ℕ) (t : Tied) → slice_get g.ties link ≡ Some t → is_of channel t ≡ true → e < t.count → has g.stale (t.from + e) ≡ true
+
+-- Two events bring values of one such channel.
+abbrev pub AreStaleValues : Ground → Event → Event → Type 0
+AreStaleValues g (Val channel values) (Val other others) = (channel ≡ other) × IsStaleChannel g channel
+AreStaleValues g _ _ = ⊥
+
+-- So do two lines with such events, whatever the values are.
+abbrev pub EventsFlow : Type 0
+EventsFlow = (p : ProgramTree) (ls : List Link) (c : Code) (hidden : List Places) (stale lines : List ℕ) (names : List (List ℕ))
+    (waits : Bool) (budget ms : ℕ) (event other : Event) (w u : World) →
+    AreFlowsOf p ls c hidden stale lines names → 0 < length p.state_sets → CanBeIn p ls c w → IsSameByState hidden stale w u →
+    AreStaleValues (ground_of p ls c [] stale lines names) event other →
+    Alike (left_out lines) (IsSameByState hidden stale) (SameButValues names) (line_of (program_meaning p ls waits) budget ms event w)
+    (line_of (program_meaning p ls waits) budget ms other u)
 
 -- With no stale place all that may differ of buffers comes to hidden places: nothing does.
 abbrev pub NothingIsStale : Type 0

@@ -2,7 +2,7 @@
 
 ghost use Rattle.snl_flows.specs.QuietChecks.{ChecksAreRight};
 ghost use Rattle.snl_flows.specs.Examples.{FlowsExamples};
-ghost use Rattle.snl_flows.specs.Flows.{LinesFlow, NothingIsLeftOut, NothingIsStale, PiecesFlow};
+ghost use Rattle.snl_flows.specs.Flows.{EventsFlow, LinesFlow, NothingIsLeftOut, NothingIsStale, PiecesFlow};
 ghost use Rattle.snl_flows.specs.Outside.{BuffersAreSame};
 ghost use Rattle.snl_flows.specs.Settled.{LinesSettle};
 ghost use Rattle.snl_flows.specs.Unwritten.{PiecesSettle};
@@ -25,6 +25,11 @@ pub fn pieces_settle()
 /// Where the pieces of a program keep links settled, so do its lines.
 pub fn lines_settle()
     ensures { LinesSettle }
+{}
+
+/// So do they with other values of a channel of which all may differ.
+pub fn events_flow()
+    ensures { EventsFlow }
 {}
 
 /// With no line nothing is left out, and with no name texts are the same.
