@@ -51,46 +51,26 @@ pub(crate) struct Argument {
     pub help: &'static str,
 }
 
-/// FILE.
-pub(crate) const FILE: Argument = Argument {
-    name: "FILE",
-    takes: Takes::Place,
-    help: "The file of the program; - for standard input",
-};
+/// A list of arguments, a row for each: its name, what it takes, and what the help tells of it.
+macro_rules! argument_list {
+    ($($name:literal: $takes:expr, $help:literal;)*) => {
+        [$(Argument { name: $name, takes: $takes, help: $help }),*]
+    };
+}
 
-/// MACROS.
-pub(crate) const MACROS: Argument = Argument {
-    name: "MACROS",
-    takes: Takes::MaybePlace,
-    help: "The macros in the names of channels",
-};
+pub(crate) use argument_list;
 
-/// `--budget`.
-const BUDGET: Argument = Argument {
-    name: "budget",
-    takes: Takes::Number(Number {
-        value: "N",
-        least: 1,
-        usual: "100000",
-    }),
-    help: "The ticks that an instant may take",
-};
-
-/// `--progress`.
-const PROGRESS: Argument = Argument {
-    name: "progress",
-    takes: Takes::Nothing,
-    help: "Tell once a second how far the trace was read",
+/// What a word takes of a program.
+pub(crate) const OF_PROGRAM: [Argument; 2] = argument_list! {
+    "FILE": Takes::Place, "The file of the program; - for standard input";
+    "MACROS": Takes::MaybePlace, "The macros in the names of channels";
 };
 
 /// What each word takes that runs something over a trace.
-pub(crate) const OF_RUNS: [Argument; 2] = [BUDGET, PROGRESS];
-
-/// What a word takes that runs a program over a trace.
-pub(crate) const OVER_TRACE: [Argument; 4] = [FILE, MACROS, BUDGET, PROGRESS];
-
-/// What a word takes of a program that has no trace of its own.
-pub(crate) const OF_PROGRAM: [Argument; 2] = [FILE, MACROS];
+pub(crate) const OF_RUNS: [Argument; 2] = argument_list! {
+    "budget": Takes::Number(Number { value: "N", least: 1, usual: "100000" }), "The ticks that an instant may take";
+    "progress": Takes::Nothing, "Tell once a second how far the trace was read";
+};
 
 /// An option that is there or not.
 fn flag<'a>(alloc: Global, name: &'static str) -> Arg<'a> {

@@ -1,6 +1,6 @@
 //! What follows the word `at`: times, or where a program faults, or comes into a state.
 
-use crate::arguments::{Argument, Takes};
+use crate::arguments::{Argument, Takes, argument_list};
 use crate::calls::{CallFault, usage};
 use clap::ArgMatches;
 use std::alloc::{AllocError, Global};
@@ -20,25 +20,15 @@ pub enum AtWords {
 }
 
 /// The times.
-pub(crate) const OF_AT: [Argument; 1] = [Argument {
-    name: "MS",
-    takes: Takes::Place,
-    help: "The times in milliseconds, with commas between them",
-}];
+pub(crate) const OF_AT: [Argument; 1] = argument_list! {
+    "MS": Takes::Place, "The times in milliseconds, with commas between them";
+};
 
 /// What stands in the place of times.
-pub(crate) const OF_AT_EVENT: [Argument; 2] = [
-    Argument {
-        name: "trip",
-        takes: Takes::Nothing,
-        help: "Where the program faults, in the place of times",
-    },
-    Argument {
-        name: "into",
-        takes: Takes::Text("SS.STATE"),
-        help: "Where it came last into a state, in the place of times",
-    },
-];
+pub(crate) const OF_AT_EVENT: [Argument; 2] = argument_list! {
+    "trip": Takes::Nothing, "Where the program faults, in the place of times";
+    "into": Takes::Text("SS.STATE"), "Where it came last into a state, in the place of times";
+};
 
 /// Whether the words behind `at` ask for a fault, or for a state.
 pub(crate) fn asks_event(words: &[&str]) -> bool {

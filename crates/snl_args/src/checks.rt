@@ -1,6 +1,6 @@
 //! What follows the word `check`: which lints say nothing, and whether the others make the status 1.
 
-use crate::arguments::{Argument, Takes};
+use crate::arguments::{Argument, Takes, argument_list};
 use crate::found::texts_in;
 use clap::ArgMatches;
 use std::alloc::{AllocError, Global};
@@ -30,33 +30,13 @@ pub struct CheckWords {
 }
 
 /// What `check` takes.
-pub(crate) const OF_CHECK: [Argument; 5] = [
-    Argument {
-        name: "FILE",
-        takes: Takes::Places,
-        help: "Files of programs, or folders with such, FILE.st; - for standard input",
-    },
-    Argument {
-        name: "format",
-        takes: Takes::Format,
-        help: "How it is written: as text, as lines of a compiler, or as JSON",
-    },
-    Argument {
-        name: "MACROS",
-        takes: Takes::Behind("macros"),
-        help: "The macros in the names of channels",
-    },
-    Argument {
-        name: "no-lint",
-        takes: Takes::Texts("NAME|NAME=LINE"),
-        help: "A lint that says nothing, or nothing on a line; several add up",
-    },
-    Argument {
-        name: "strict",
-        takes: Takes::Nothing,
-        help: "End with status 1 where a lint says something",
-    },
-];
+pub(crate) const OF_CHECK: [Argument; 5] = argument_list! {
+    "FILE": Takes::Places, "Files of programs, or folders with such, FILE.st; - for standard input";
+    "format": Takes::Format, "How it is written: as text, as lines of a compiler, or as JSON";
+    "MACROS": Takes::Behind("macros"), "The macros in the names of channels";
+    "no-lint": Takes::Texts("NAME|NAME=LINE"), "A lint that says nothing, or nothing on a line; several add up";
+    "strict": Takes::Nothing, "End with status 1 where a lint says something";
+};
 
 /// The format of a word.
 fn format_of(word: &str) -> Format {

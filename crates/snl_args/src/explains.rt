@@ -1,6 +1,6 @@
 //! What follows the word `explain`: the name of a message or of a lint, whose section is told.
 
-use crate::arguments::{Argument, Takes};
+use crate::arguments::{Argument, Takes, argument_list};
 use crate::calls::CallFault;
 use crate::forms::{Synopsis, found_by};
 use crate::texts;
@@ -8,11 +8,9 @@ use snl_pages::{nearest_name, page_named};
 use std::alloc::{AllocError, Global};
 
 /// What `explain` takes.
-const OF_EXPLAIN: [Argument; 1] = [Argument {
-    name: "NAME",
-    takes: Takes::Place,
-    help: "The number of a message, as E20 or W7, or the name of a lint",
-}];
+const OF_EXPLAIN: [Argument; 1] = argument_list! {
+    "NAME": Takes::Place, "The number of a message, as E20 or W7, or the name of a lint";
+};
 
 static EXPLAIN: Synopsis = Synopsis {
     texts: texts::EXPLAIN,

@@ -3,7 +3,7 @@
 //! What a form takes is a static. A proof lists what a constant holds at each step of a function that borrows it, and what each static
 //! holds that is borrowed there: so each has a function of its own.
 
-use crate::arguments::{Argument, OF_PROGRAM, OF_RUNS, OVER_TRACE, command_of};
+use crate::arguments::{Argument, OF_PROGRAM, OF_RUNS, command_of};
 use crate::ats::{OF_AT, OF_AT_EVENT, asks_event};
 use crate::calls::{CallFault, matches_in};
 use crate::checks::OF_CHECK;
@@ -11,7 +11,7 @@ use crate::commands::{
     OF_ANSWERS, OF_COVER, OF_DAY, OF_GRAPH, OF_RULES, OF_RUN, OF_SEARCH, OF_SETS, OF_WAITS,
 };
 use crate::joins::OF_JOIN;
-use crate::sames::{OF_SAME, OF_SAME_SEARCH};
+use crate::sames::{OF_PAIR, OF_PUTS, OF_SAME, OF_SAME_SEARCH};
 use crate::tests::OF_TEST;
 use crate::texts::{self, Texts};
 use crate::traces::OF_TRACE;
@@ -61,80 +61,42 @@ pub(crate) struct Synopsis {
     pub arguments: &'static [&'static [Argument]],
 }
 
-static WAITS: Synopsis = Synopsis {
-    texts: texts::WAITS,
-    arguments: &[&OVER_TRACE, &OF_WAITS],
-};
+/// What a form takes, by the texts of its help and the lists of its arguments.
+macro_rules! synopsis {
+    ($texts:ident: $($list:ident),*) => {
+        Synopsis { texts: texts::$texts, arguments: &[$(&$list),*] }
+    };
+}
 
-static RUN: Synopsis = Synopsis {
-    texts: texts::RUN,
-    arguments: &[&OVER_TRACE, &OF_RUN],
-};
+static WAITS: Synopsis = synopsis!(WAITS: OF_PROGRAM, OF_RUNS, OF_WAITS);
 
-static COVER: Synopsis = Synopsis {
-    texts: texts::COVER,
-    arguments: &[&OVER_TRACE, &OF_COVER],
-};
+static RUN: Synopsis = synopsis!(RUN: OF_PROGRAM, OF_RUNS, OF_RUN);
 
-static GRAPH: Synopsis = Synopsis {
-    texts: texts::GRAPH,
-    arguments: &[&OVER_TRACE, &OF_GRAPH],
-};
+static COVER: Synopsis = synopsis!(COVER: OF_PROGRAM, OF_RUNS, OF_COVER);
 
-static SEARCH: Synopsis = Synopsis {
-    texts: texts::SEARCH,
-    arguments: &[&OF_PROGRAM, &OF_RULES, &OF_SEARCH, &OF_DAY, &OF_ANSWERS],
-};
+static GRAPH: Synopsis = synopsis!(GRAPH: OF_PROGRAM, OF_RUNS, OF_GRAPH);
 
-static JOIN: Synopsis = Synopsis {
-    texts: texts::JOIN,
-    arguments: &[&OF_JOIN],
-};
+static SEARCH: Synopsis = synopsis!(SEARCH: OF_PROGRAM, OF_RULES, OF_SEARCH, OF_DAY, OF_ANSWERS);
 
-static SAME: Synopsis = Synopsis {
-    texts: texts::SAME,
-    arguments: &[&OF_SAME, &OF_RUNS],
-};
+static JOIN: Synopsis = synopsis!(JOIN: OF_JOIN);
 
-static SAME_SEARCH: Synopsis = Synopsis {
-    texts: texts::SAME_SEARCH,
-    arguments: &[&OF_SAME_SEARCH, &OF_SEARCH],
-};
+static SAME: Synopsis = synopsis!(SAME: OF_PAIR, OF_PUTS, OF_SAME, OF_RUNS);
 
-static AT: Synopsis = Synopsis {
-    texts: texts::AT,
-    arguments: &[&OF_AT, &OVER_TRACE],
-};
+static SAME_SEARCH: Synopsis = synopsis!(SAME_SEARCH: OF_PAIR, OF_SAME_SEARCH, OF_PUTS, OF_SEARCH);
 
-static AT_EVENT: Synopsis = Synopsis {
-    texts: texts::AT,
-    arguments: &[&OVER_TRACE, &OF_AT_EVENT],
-};
+static AT: Synopsis = synopsis!(AT: OF_AT, OF_PROGRAM, OF_RUNS);
 
-static TREE: Synopsis = Synopsis {
-    texts: texts::TREE,
-    arguments: &[&OF_PROGRAM],
-};
+static AT_EVENT: Synopsis = synopsis!(AT: OF_PROGRAM, OF_RUNS, OF_AT_EVENT);
 
-static SETS: Synopsis = Synopsis {
-    texts: texts::SETS,
-    arguments: &[&OF_PROGRAM, &OF_SETS],
-};
+static TREE: Synopsis = synopsis!(TREE: OF_PROGRAM);
 
-static CHECK: Synopsis = Synopsis {
-    texts: texts::CHECK,
-    arguments: &[&OF_CHECK],
-};
+static SETS: Synopsis = synopsis!(SETS: OF_PROGRAM, OF_SETS);
 
-static TRACE: Synopsis = Synopsis {
-    texts: texts::TRACE,
-    arguments: &[&OF_TRACE],
-};
+static CHECK: Synopsis = synopsis!(CHECK: OF_CHECK);
 
-static TEST: Synopsis = Synopsis {
-    texts: texts::TEST,
-    arguments: &[&OF_TEST],
-};
+static TRACE: Synopsis = synopsis!(TRACE: OF_TRACE);
+
+static TEST: Synopsis = synopsis!(TEST: OF_TEST);
 
 /// Whether this option is among the words of a call.
 fn has_word(words: &[&str], option: &str) -> bool {

@@ -1,6 +1,6 @@
 //! What follows the word `same`: the other program, and what of the outputs is compared.
 
-use crate::arguments::{Argument, MACROS, Takes};
+use crate::arguments::{Argument, Takes, argument_list};
 use crate::calls::CallFault;
 use crate::found::texts_in;
 use crate::searches::{SearchWords, search_words};
@@ -23,61 +23,28 @@ pub struct SameWords {
     pub search: Option<SearchWords>,
 }
 
-/// The file of one program.
-const OLD: Argument = Argument {
-    name: "OLD",
-    takes: Takes::Place,
-    help: "The file of one program",
+/// The two programs.
+pub(crate) const OF_PAIR: [Argument; 3] = argument_list! {
+    "OLD": Takes::Place, "The file of one program";
+    "NEW": Takes::Place, "The file of the other one";
+    "MACROS": Takes::MaybePlace, "The macros in the names of channels";
 };
 
-/// That of the other one.
-const NEW: Argument = Argument {
-    name: "NEW",
-    takes: Takes::Place,
-    help: "The file of the other one",
+/// What of the outputs is compared.
+pub(crate) const OF_PUTS: [Argument; 2] = argument_list! {
+    "but": Takes::Texts("CHANNEL"), "A channel whose puts are left out; several add up";
+    "puts": Takes::Nothing, "Compare puts alone, the last to each channel at each time";
 };
 
-/// `--but`.
-const BUT: Argument = Argument {
-    name: "but",
-    takes: Takes::Texts("CHANNEL"),
-    help: "A channel whose puts are left out; several add up",
+/// What `same` takes alone.
+pub(crate) const OF_SAME: [Argument; 1] = argument_list! {
+    "whole": Takes::Nothing, "Tell each difference, and not the first alone";
 };
 
-/// `--puts`.
-const PUTS: Argument = Argument {
-    name: "puts",
-    takes: Takes::Nothing,
-    help: "Compare puts alone, the last to each channel at each time",
+/// What `same` takes for a search.
+pub(crate) const OF_SAME_SEARCH: [Argument; 1] = argument_list! {
+    "search": Takes::Nothing, "Compare over every trace, and read none";
 };
-
-/// What `same` takes beside what each run takes.
-pub(crate) const OF_SAME: [Argument; 6] = [
-    OLD,
-    NEW,
-    MACROS,
-    BUT,
-    PUTS,
-    Argument {
-        name: "whole",
-        takes: Takes::Nothing,
-        help: "Tell each difference, and not the first alone",
-    },
-];
-
-/// What `same` takes with `--search`, beside what a search takes.
-pub(crate) const OF_SAME_SEARCH: [Argument; 6] = [
-    OLD,
-    NEW,
-    MACROS,
-    Argument {
-        name: "search",
-        takes: Takes::Nothing,
-        help: "Compare over every trace, and read none",
-    },
-    BUT,
-    PUTS,
-];
 
 /// What a search is asked for, as the command found it; None for a comparison over a trace.
 fn search_in(

@@ -1,6 +1,6 @@
 //! What follows the word `test`: what is tested, and what is written.
 
-use crate::arguments::{Argument, Takes};
+use crate::arguments::{Argument, Takes, argument_list};
 use crate::found::{text_in, texts_in};
 use clap::ArgMatches;
 use std::alloc::{AllocError, Global};
@@ -19,28 +19,12 @@ pub struct TestWords {
 }
 
 /// What `test` takes.
-pub(crate) const OF_TEST: [Argument; 4] = [
-    Argument {
-        name: "PATH",
-        takes: Takes::Places,
-        help: "Programs, NAME.st, or folders with such",
-    },
-    Argument {
-        name: "junit",
-        takes: Takes::Text("FILE"),
-        help: "A file that gets a report in the XML of JUnit",
-    },
-    Argument {
-        name: "bless",
-        takes: Takes::Nothing,
-        help: "Write what came as what is wanted",
-    },
-    Argument {
-        name: "force",
-        takes: Takes::Nothing,
-        help: "With --bless: also of a run that faults, and of a program with errors",
-    },
-];
+pub(crate) const OF_TEST: [Argument; 4] = argument_list! {
+    "PATH": Takes::Places, "Programs, NAME.st, or folders with such";
+    "junit": Takes::Text("FILE"), "A file that gets a report in the XML of JUnit";
+    "bless": Takes::Nothing, "Write what came as what is wanted";
+    "force": Takes::Nothing, "With --bless: also of a run that faults, and of a program with errors";
+};
 
 /// What tests are asked for, as the command found it.
 pub(crate) fn test_words(alloc: Global, matches: &ArgMatches) -> Result<TestWords, AllocError> {

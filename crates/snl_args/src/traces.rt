@@ -1,6 +1,6 @@
 //! What follows the word `trace`: the logs, the program, the units of their channels, and where the trace begins and ends.
 
-use crate::arguments::{Argument, Number, Takes};
+use crate::arguments::{Argument, Number, Takes, argument_list};
 use crate::calls::{CallFault, usage};
 use crate::found::{pushed, text_in, texts_in};
 use crate::searches::bad_text;
@@ -53,72 +53,20 @@ pub struct TraceWords {
 }
 
 /// What `trace` takes.
-pub(crate) const OF_TRACE: [Argument; 12] = [
-    Argument {
-        name: "LOG",
-        takes: Takes::Places,
-        help: "The files of the logs; - for standard input",
-    },
-    Argument {
-        name: "FILE",
-        takes: Takes::Behind("program"),
-        help: "The file of a program: what it does not take is left out, and what it lacks is told",
-    },
-    Argument {
-        name: "MACROS",
-        takes: Takes::Behind("macros"),
-        help: "The macros in the names of its channels",
-    },
-    Argument {
-        name: "units",
-        takes: Takes::Text("FILE"),
-        help: "A file of units, as snl-port writes it; the words below count more",
-    },
-    Argument {
-        name: "scale",
-        takes: Takes::Texts("NAME=K"),
-        help: "The values of a channel are multiplied by 10 to the power of K, and rounded",
-    },
-    Argument {
-        name: "enum",
-        takes: Takes::Texts("NAME=TEXT:N,.."),
-        help: "The numbers that texts of a channel stand for",
-    },
-    Argument {
-        name: "value",
-        takes: Takes::Texts("NAME=N"),
-        help: "The value that a channel has at 0 ms, if no log says otherwise",
-    },
-    Argument {
-        name: "offset",
-        takes: Takes::Texts("FILE=+HH:MM"),
-        help: "By how much the clock of a file is ahead of those of the others",
-    },
-    Argument {
-        name: "lead",
-        takes: Takes::Number(Number {
-            value: "S",
-            least: 0,
-            usual: "10",
-        }),
-        help: "How many seconds before the first change the trace begins at most",
-    },
-    Argument {
-        name: "severity",
-        takes: Takes::Nothing,
-        help: "Write the alarms too, as channels NAME.SEVR",
-    },
-    Argument {
-        name: "from",
-        takes: Takes::Text("T"),
-        help: "The time of 0 ms, as the logs tell it",
-    },
-    Argument {
-        name: "to",
-        takes: Takes::Text("T"),
-        help: "The time behind which no log is read",
-    },
-];
+pub(crate) const OF_TRACE: [Argument; 12] = argument_list! {
+    "LOG": Takes::Places, "The files of the logs; - for standard input";
+    "FILE": Takes::Behind("program"), "The file of a program: what it does not take is left out, and what it lacks is told";
+    "MACROS": Takes::Behind("macros"), "The macros in the names of its channels";
+    "units": Takes::Text("FILE"), "A file of units, as snl-port writes it; the words below count more";
+    "scale": Takes::Texts("NAME=K"), "The values of a channel are multiplied by 10 to the power of K, and rounded";
+    "enum": Takes::Texts("NAME=TEXT:N,.."), "The numbers that texts of a channel stand for";
+    "value": Takes::Texts("NAME=N"), "The value that a channel has at 0 ms, if no log says otherwise";
+    "offset": Takes::Texts("FILE=+HH:MM"), "By how much the clock of a file is ahead of those of the others";
+    "lead": Takes::Number(Number { value: "S", least: 0, usual: "10" }), "How many seconds before the first change the trace begins at most";
+    "severity": Takes::Nothing, "Write the alarms too, as channels NAME.SEVR";
+    "from": Takes::Text("T"), "The time of 0 ms, as the logs tell it";
+    "to": Takes::Text("T"), "The time behind which no log is read";
+};
 
 /// The texts of an option; none where it is not given.
 fn texts_of<'m>(matches: &'m ArgMatches, option: &str) -> &'m [&'m str] {
