@@ -25,17 +25,24 @@ pub struct PartWord {
     pub of: usize,
 }
 
-/// What a search is asked for.
+/// What must not happen, and the files of a search.
 #[derive(Drop)]
-pub struct SearchWords {
-    /// The requirement, with the options and the macros of the call; None where nobody watches.
-    pub watch: Option<Job>,
+pub struct WantedWords {
     /// Lines that the output may not have, or states that may not be entered; with a requirement states of that.
     pub never: Vec<String>,
     /// What no line may end with, byte for byte.
     pub ends: Vec<String>,
     /// The file of a recorded trace, whose values take the place of those of the source.
     pub like: Option<String>,
+    /// The file that the trace of what was found goes to.
+    pub out: Option<String>,
+    /// The folder that traces go to which take the clauses of the program.
+    pub cover: Option<String>,
+}
+
+/// How traces begin, and what their lines are made of.
+#[derive(Drop)]
+pub struct AlphabetWords {
     /// The recorded day in which the search starts, in the place of first values.
     pub after: Option<AfterWords>,
     /// Values of channels, in the place of those of the source or the trace.
@@ -44,10 +51,15 @@ pub struct SearchWords {
     pub firsts: Vec<ChannelValues>,
     /// Times between lines in milliseconds, in the place of 0; None where a line may come at any time.
     pub gaps: Option<Vec<u64>>,
-    /// Channels that may go down and up.
-    pub down: Vec<String>,
     /// The share of the starts that the search goes over, in the place of all.
     pub part: Option<PartWord>,
+    /// Channels that may go down and up.
+    pub down: Vec<String>,
+}
+
+/// Where a search stops.
+#[derive(Clone, Copy)]
+pub struct LimitWords {
     /// How many lines a trace has at most behind the start.
     pub lines: u32,
     /// How many worlds are kept at most.
@@ -58,10 +70,19 @@ pub struct SearchWords {
     pub seconds: u32,
     /// How many ticks an instant may take while it is searched.
     pub budget: u32,
-    /// The file that the trace of what was found goes to.
-    pub out: Option<String>,
-    /// The folder that traces go to which take the clauses of the program.
-    pub cover: Option<String>,
+}
+
+/// What a search is asked for.
+#[derive(Drop)]
+pub struct SearchWords {
+    /// The requirement, with the options and the macros of the call; None where nobody watches.
+    pub watch: Option<Job>,
+    /// What must not happen, and the files.
+    pub wanted: WantedWords,
+    /// How traces begin, and what their lines are made of.
+    pub alphabet: AlphabetWords,
+    /// Where it stops.
+    pub limits: LimitWords,
 }
 
 /// The error of an option whose text is none.
@@ -70,21 +91,6 @@ pub(crate) fn bad_text(alloc: Global, option: &str, text: &str, form: &str) -> C
         Ok(text) => CallFault::Usage(text),
         Err(_) => CallFault::Memory,
     }
-}
-
-/// Whole numbers with commas between them; none in an empty text. None where one is no number.
-fn numbers_in(alloc: Global, text: &str) -> Result<Option<Vec<i64>>, AllocError> {
-    let mut numbers = Vec::new(alloc);
-    if text.is_empty() {
-        return Ok(Some(numbers));
-    }
-    for word in text.split(',') {
-        match word.parse::<i64>() {
-            Ok(number) => numbers.push(number)?,
-            Err(_) => return Ok(None),
-        }
-    }
-    Ok(Some(numbers))
 }
 
 /// How many numbers an interval of values may have.
@@ -193,23 +199,23 @@ fn all_named(
     Ok(all)
 }
 
-/// Adds times in milliseconds. Answers whether all are some.
-fn push_times(numbers: &[i64], times: &mut Vec<u64>) -> Result<bool, AllocError> {
-    for number in numbers {
-        match u64::try_from(*number) {
-            Ok(ms) => times.push(ms)?,
-            Err(_) => return Ok(false),
+/// The time of a word, in milliseconds.
+fn time_of(word: &str) -> Option<u64> {
+    u64::try_from(word.parse::<i64>().ok()?).ok()
+}
+
+/// Adds the times of `MS,MS..`; none of an empty text. Answers whether it is that.
+fn push_gaps(text: &str, times: &mut Vec<u64>) -> Result<bool, AllocError> {
+    if text.is_empty() {
+        return Ok(true);
+    }
+    for word in text.split(',') {
+        match time_of(word) {
+            Some(ms) => times.push(ms)?,
+            None => return Ok(false),
         }
     }
     Ok(true)
-}
-
-/// Adds the times of `MS,MS..`. Answers whether it is that.
-fn push_gaps(alloc: Global, text: &str, times: &mut Vec<u64>) -> Result<bool, AllocError> {
-    match numbers_in(alloc, text)? {
-        Some(numbers) => push_times(numbers.as_slice(), times),
-        None => Ok(false),
-    }
 }
 
 /// The times of `--gaps`; None where `all` is one of its texts.
@@ -219,7 +225,7 @@ fn gaps_in(alloc: Global, matches: &ArgMatches) -> Result<Option<Vec<u64>>, Call
     for text in matches.get_strs("gaps").unwrap_or(&[]) {
         if *text == "all" {
             are_all = true;
-        } else if !push_gaps(alloc, text, &mut times)? {
+        } else if !push_gaps(text, &mut times)? {
             return Err(bad_text(alloc, "gaps", text, "MS,MS.. or all"));
         }
     }
@@ -254,20 +260,9 @@ fn part_in(alloc: Global, matches: &ArgMatches) -> Result<Option<PartWord>, Call
     }
 }
 
-/// How traces begin, and what their lines are made of.
-#[derive(Drop)]
-struct Alphabet {
-    after: Option<AfterWords>,
-    values: Vec<ChannelValues>,
-    firsts: Vec<ChannelValues>,
-    gaps: Option<Vec<u64>>,
-    part: Option<PartWord>,
-    down: Vec<String>,
-}
-
 /// How traces begin, and what their lines are made of, as a command found it.
-fn alphabet_in(alloc: Global, matches: &ArgMatches) -> Result<Alphabet, CallFault> {
-    Ok(Alphabet {
+fn alphabet_in(alloc: Global, matches: &ArgMatches) -> Result<AlphabetWords, CallFault> {
+    Ok(AlphabetWords {
         after: after_in(alloc, matches)?,
         values: all_named(alloc, matches, "values")?,
         firsts: all_named(alloc, matches, "first")?,
@@ -277,19 +272,9 @@ fn alphabet_in(alloc: Global, matches: &ArgMatches) -> Result<Alphabet, CallFaul
     })
 }
 
-/// What must not happen, and the files of a search.
-#[derive(Drop)]
-struct Wanted {
-    never: Vec<String>,
-    ends: Vec<String>,
-    like: Option<String>,
-    out: Option<String>,
-    cover: Option<String>,
-}
-
 /// What must not happen, and the files of a search, as a command found them.
-fn wanted_in(alloc: Global, matches: &ArgMatches) -> Result<Wanted, AllocError> {
-    Ok(Wanted {
+fn wanted_in(alloc: Global, matches: &ArgMatches) -> Result<WantedWords, AllocError> {
+    Ok(WantedWords {
         never: texts_in(alloc, matches, "never")?,
         ends: texts_in(alloc, matches, "never-end")?,
         like: text_in(alloc, matches, "like")?,
@@ -298,19 +283,9 @@ fn wanted_in(alloc: Global, matches: &ArgMatches) -> Result<Wanted, AllocError> 
     })
 }
 
-/// Where a search stops.
-#[derive(Clone, Copy)]
-struct Limits {
-    lines: u32,
-    worlds: u32,
-    memory: u32,
-    seconds: u32,
-    budget: u32,
-}
-
 /// Where a search stops, as a command found it.
-fn limits_in(matches: &ArgMatches) -> Limits {
-    Limits {
+fn limits_in(matches: &ArgMatches) -> LimitWords {
+    LimitWords {
         lines: number_in(matches, "lines"),
         worlds: number_in(matches, "worlds"),
         memory: number_in(matches, "memory"),
@@ -320,7 +295,7 @@ fn limits_in(matches: &ArgMatches) -> Limits {
 }
 
 /// What a search with a requirement is asked for that it does not do, if it is asked for such a thing.
-fn unwatched_option(wanted: &Wanted, alphabet: &Alphabet) -> Option<&'static str> {
+fn unwatched_option(wanted: &WantedWords, alphabet: &AlphabetWords) -> Option<&'static str> {
     if !wanted.ends.is_empty() {
         Some("--never-end")
     } else if wanted.cover.is_some() {
@@ -335,51 +310,17 @@ fn unwatched_option(wanted: &Wanted, alphabet: &Alphabet) -> Option<&'static str
 }
 
 /// Sees that a search with a requirement is asked for nothing that it does not do.
-fn check_watched(alloc: Global, wanted: &Wanted, alphabet: &Alphabet) -> Result<(), CallFault> {
+fn check_watched(
+    alloc: Global,
+    wanted: &WantedWords,
+    alphabet: &AlphabetWords,
+) -> Result<(), CallFault> {
     let Some(option) = unwatched_option(wanted, alphabet) else {
         return Ok(());
     };
     Err(CallFault::Usage(format!(in alloc;
         "error: '{option}' does not go with --watch\n\nFor more information, try '--help'.\n"
     )?))
-}
-
-/// What a search is asked for, by its parts.
-fn words_by(watch: Option<Job>, wanted: Wanted, alphabet: Alphabet, limits: Limits) -> SearchWords {
-    let Wanted {
-        never,
-        ends,
-        like,
-        out,
-        cover,
-    } = wanted;
-    let Alphabet {
-        after,
-        values,
-        firsts,
-        gaps,
-        part,
-        down,
-    } = alphabet;
-    SearchWords {
-        watch,
-        never,
-        ends,
-        like,
-        after,
-        values,
-        firsts,
-        gaps,
-        down,
-        part,
-        lines: limits.lines,
-        worlds: limits.worlds,
-        memory: limits.memory,
-        seconds: limits.seconds,
-        budget: limits.budget,
-        out,
-        cover,
-    }
 }
 
 /// What a search is asked for, as a command found it.
@@ -393,5 +334,10 @@ pub(crate) fn search_words(
     if watch.is_some() {
         check_watched(alloc, &wanted, &alphabet)?;
     }
-    Ok(words_by(watch, wanted, alphabet, limits_in(matches)))
+    Ok(SearchWords {
+        watch,
+        wanted,
+        alphabet,
+        limits: limits_in(matches),
+    })
 }

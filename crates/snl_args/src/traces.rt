@@ -27,29 +27,43 @@ pub struct NamedText {
     pub number: i64,
 }
 
-/// What a trace is made of, and how.
+/// What the values of the logs stand for.
 #[derive(Drop)]
-pub struct TraceWords {
-    /// Whether the trace is made for the program of the call.
-    pub has_program: bool,
+pub struct MeaningWords {
     /// The powers of ten that values of channels are multiplied by.
     pub scales: Vec<NamedNumber>,
     /// The texts that stand for numbers.
     pub texts: Vec<NamedText>,
     /// The values that channels have at the begin.
     pub values: Vec<NamedNumber>,
+}
+
+/// The files, and the times between which they are read.
+#[derive(Drop)]
+pub struct SpanWords {
     /// By how many minutes the clocks of files are ahead.
     pub offsets: Vec<NamedNumber>,
-    /// How many seconds the trace begins before the first change at most.
-    pub lead: u32,
-    /// Whether alarms are written.
-    pub tells_alarms: bool,
-    /// The time at which it begins.
+    /// The time at which the trace begins.
     pub from: Option<String>,
     /// The time at which it ends.
     pub to: Option<String>,
     /// The files.
     pub logs: Vec<String>,
+}
+
+/// What a trace is made of, and how.
+#[derive(Drop)]
+pub struct TraceWords {
+    /// Whether the trace is made for the program of the call.
+    pub has_program: bool,
+    /// What the values of the logs stand for.
+    pub meanings: MeaningWords,
+    /// The files, and the times between which they are read.
+    pub span: SpanWords,
+    /// How many seconds the trace begins before the first change at most.
+    pub lead: u32,
+    /// Whether alarms are written.
+    pub tells_alarms: bool,
 }
 
 /// What `trace` takes.
@@ -212,34 +226,20 @@ fn names_program(alloc: Global, matches: &ArgMatches) -> Result<bool, CallFault>
     Ok(has_program)
 }
 
-/// What the values of the logs stand for.
-#[derive(Drop)]
-struct Meanings {
-    scales: Vec<NamedNumber>,
-    texts: Vec<NamedText>,
-    values: Vec<NamedNumber>,
-}
-
 /// What the values of the logs stand for, as a command found it.
-fn meanings_of(alloc: Global, matches: &ArgMatches) -> Result<Meanings, CallFault> {
-    Ok(Meanings {
+fn meanings_of(alloc: Global, matches: &ArgMatches) -> Result<MeaningWords, CallFault> {
+    Ok(MeaningWords {
         scales: numbers_of(alloc, matches, "scale", Counted::Number, "NAME=K")?,
         texts: enums_of(alloc, matches)?,
         values: numbers_of(alloc, matches, "value", Counted::Number, "NAME=N")?,
     })
 }
 
-/// The files, and the times between which they are read.
-#[derive(Drop)]
-struct Span {
-    from: Option<String>,
-    to: Option<String>,
-    logs: Vec<String>,
-}
-
 /// The files, and the times between which they are read, as a command found them.
-fn span_of(alloc: Global, matches: &ArgMatches) -> Result<Span, AllocError> {
-    Ok(Span {
+fn span_of(alloc: Global, matches: &ArgMatches) -> Result<SpanWords, CallFault> {
+    let form = "FILE=+HH:MM or FILE=-HH:MM";
+    Ok(SpanWords {
+        offsets: numbers_of(alloc, matches, "offset", Counted::Minutes, form)?,
         from: text_in(alloc, matches, "from")?,
         to: text_in(alloc, matches, "to")?,
         logs: texts_in(alloc, matches, "LOG")?,
@@ -248,30 +248,11 @@ fn span_of(alloc: Global, matches: &ArgMatches) -> Result<Span, AllocError> {
 
 /// What a trace is made of, as a command found it.
 pub(crate) fn trace_words(alloc: Global, matches: &ArgMatches) -> Result<TraceWords, CallFault> {
-    let has_program = names_program(alloc, matches)?;
-    let Meanings {
-        scales,
-        texts,
-        values,
-    } = meanings_of(alloc, matches)?;
-    let offsets = numbers_of(
-        alloc,
-        matches,
-        "offset",
-        Counted::Minutes,
-        "FILE=+HH:MM or FILE=-HH:MM",
-    )?;
-    let Span { from, to, logs } = span_of(alloc, matches)?;
     Ok(TraceWords {
-        has_program,
-        scales,
-        texts,
-        values,
-        offsets,
+        has_program: names_program(alloc, matches)?,
+        meanings: meanings_of(alloc, matches)?,
+        span: span_of(alloc, matches)?,
         lead: matches.get_one::<u32>("lead").unwrap_or(10),
         tells_alarms: matches.get_flag("severity"),
-        from,
-        to,
-        logs,
     })
 }

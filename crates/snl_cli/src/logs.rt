@@ -171,7 +171,7 @@ fn held_of(rt: &HostRuntime, file: &str) -> io::Result<Option<ExportLog>> {
 /// What is held of the logs of a call, by their places; nothing of those that are read as they come.
 pub fn held_logs(rt: &HostRuntime, words: &TraceWords) -> Result<Vec<Option<ExportLog>>, Status> {
     let mut all = Vec::new(rt.alloc());
-    for file in &words.logs {
+    for file in &words.span.logs {
         let held = if is_plain(rt, file.as_str()) {
             held_of(rt, file.as_str())
         } else {
@@ -217,7 +217,7 @@ fn feed_of<'t>(
     size: usize,
     before: u64,
 ) -> Result<LogFeed<'t>, Status> {
-    let shift = shift_of(words.offsets.as_slice(), file);
+    let shift = shift_of(words.span.offsets.as_slice(), file);
     let Ok(input) = BufReader::with_capacity(alloc, size, log) else {
         return Err(Status::Memory);
     };
@@ -268,7 +268,7 @@ pub fn feeds_of<'t>(
     logs: &'t [Option<ExportLog>],
 ) -> Result<Vec<LogFeed<'t>>, Status> {
     let mut feeds = Vec::new(rt.alloc());
-    for (place, file) in words.logs.iter().enumerate() {
+    for (place, file) in words.span.logs.iter().enumerate() {
         match logs.get(place) {
             Some(Some(held)) => push_parts(rt.alloc(), words, file.as_str(), held, &mut feeds)?,
             _ => push_log(rt, words, file.as_str(), &mut feeds)?,

@@ -58,12 +58,12 @@ fn guard_of(rt: &HostRuntime, call: &Call, words: &SearchWords, path: &str) -> O
     if is_same(rt, path, call.job.file.as_str()) {
         return Some(Guard::Program);
     }
-    if let Some(like) = &words.like {
+    if let Some(like) = &words.wanted.like {
         if is_same(rt, path, like.as_str()) {
             return Some(Guard::Like);
         }
     }
-    if let Some(after) = &words.after {
+    if let Some(after) = &words.alphabet.after {
         if is_same(rt, path, after.trace.as_str()) {
             return Some(Guard::After);
         }
@@ -167,10 +167,10 @@ fn check_cover(
 
 /// Sees that a search may write what its words name, before it begins. Where it may not, standard error tells why.
 pub fn check_outputs(rt: &HostRuntime, call: &Call, words: &SearchWords) -> Result<(), Status> {
-    if let Some(path) = &words.out {
+    if let Some(path) = &words.wanted.out {
         check_out(rt, call, words, path.as_str())?;
     }
-    match &words.cover {
+    match &words.wanted.cover {
         Some(folder) => check_cover(rt, call, words, folder.as_str()),
         None => Ok(()),
     }

@@ -77,15 +77,15 @@ fn push_after(
 /// The words of a call that the answer of a search depends on, but for those of its bounds.
 fn search_text(alloc: Global, asked: Asked, words: &SearchWords) -> Result<String, AllocError> {
     let mut out = words_of(alloc, asked)?;
-    let budget = format!(in alloc; "\nbudget {}", words.budget)?;
+    let budget = format!(in alloc; "\nbudget {}", words.limits.budget)?;
     out.push_str(budget.as_str())?;
-    push_texts(&mut out, "never", words.never.as_slice())?;
-    push_texts(&mut out, "never-end", words.ends.as_slice())?;
-    push_values(&mut out, "values", words.values.as_slice())?;
-    push_values(&mut out, "first", words.firsts.as_slice())?;
-    push_texts(&mut out, "down", words.down.as_slice())?;
-    push_gaps(alloc, &mut out, &words.gaps)?;
-    push_after(alloc, &mut out, &words.after)?;
+    push_texts(&mut out, "never", words.wanted.never.as_slice())?;
+    push_texts(&mut out, "never-end", words.wanted.ends.as_slice())?;
+    push_values(&mut out, "values", words.alphabet.values.as_slice())?;
+    push_values(&mut out, "first", words.alphabet.firsts.as_slice())?;
+    push_texts(&mut out, "down", words.alphabet.down.as_slice())?;
+    push_gaps(alloc, &mut out, &words.alphabet.gaps)?;
+    push_after(alloc, &mut out, &words.alphabet.after)?;
     Ok(out)
 }
 
@@ -97,7 +97,7 @@ pub fn part_of(
     words: &SearchWords,
     day: Option<&[u8]>,
 ) -> Result<Option<Part>, AllocError> {
-    let Some(part) = words.part else {
+    let Some(part) = words.alphabet.part else {
         return Ok(None);
     };
     let text = search_text(alloc, asked, words)?;

@@ -2,7 +2,7 @@
 
 use snc::Status;
 use snc_cli::{source_in, write};
-use snl_alphabet::{Bounds, Limits, Watches, WishedValues};
+use snl_alphabet::{Limits, Watches, WishedValues};
 use snl_args::{Call, SameWords, SearchWords};
 use snl_cli::{Both, both_of, tell_messages, write_trace};
 use snl_equivalence::{
@@ -10,7 +10,7 @@ use snl_equivalence::{
 };
 use snl_same::{Filter, Side};
 use snl_trace_cli::units_for;
-use snl_wishes::{Clock, owned, recorded, times_of, told_fault, wished_values};
+use snl_wishes::{Clock, bounds_of, owned, recorded, times_of, told_fault, wished_values};
 use std::alloc::{AllocError, Global};
 use std::fs::File;
 use std::time::Instant;
@@ -50,8 +50,18 @@ fn wished_in(rt: &HostRuntime, asked: Asked) -> Result<Wished, Status> {
     let units = units_for(rt, asked.call)?;
     let search = asked.search;
     Ok(Wished {
-        values: wished_values(rt, units.as_slice(), "values", search.values.as_slice())?,
-        firsts: wished_values(rt, units.as_slice(), "first", search.firsts.as_slice())?,
+        values: wished_values(
+            rt,
+            units.as_slice(),
+            "values",
+            search.alphabet.values.as_slice(),
+        )?,
+        firsts: wished_values(
+            rt,
+            units.as_slice(),
+            "first",
+            search.alphabet.firsts.as_slice(),
+        )?,
         old_like: recorded(rt, search)?,
         new_like: recorded(rt, search)?,
     })
@@ -74,15 +84,10 @@ pub fn wishes_of(
         new_like,
         values,
         firsts,
-        gaps: times_of(alloc, &words.gaps)?,
-        down: owned(alloc, words.down.as_slice())?,
-        bounds: Bounds {
-            lines: words.lines as usize,
-            worlds: words.worlds as usize,
-            memory: u64::from(words.memory).saturating_mul(1_000_000),
-            covers: false,
-        },
-        budget: words.budget,
+        gaps: times_of(alloc, &words.alphabet.gaps)?,
+        down: owned(alloc, words.alphabet.down.as_slice())?,
+        bounds: bounds_of(words),
+        budget: words.limits.budget,
     })
 }
 
@@ -95,7 +100,7 @@ fn all_wishes(rt: &HostRuntime, asked: Asked) -> Result<PairWishes, Status> {
 /// Says what a search answers.
 fn told_answer(rt: &HostRuntime, words: &SearchWords, answer: &PairAnswer) -> u8 {
     let written = write(rt, answer.text.as_slice());
-    if !write_trace(rt, &words.out, &answer.trace) || written.is_err() {
+    if !write_trace(rt, &words.wanted.out, &answer.trace) || written.is_err() {
         return Status::InputOutput.code();
     }
     answer.verdict.code()
@@ -121,7 +126,7 @@ struct Pair {
 
 /// Makes the programs of both sources ready for the search; None where one has an error.
 fn pair_in(rt: &HostRuntime, asked: Asked, texts: Texts) -> Result<Option<Pair>, AllocError> {
-    let budget = asked.search.budget;
+    let budget = asked.search.limits.budget;
     let old = prepared_in(rt.alloc(), &asked.call.job, texts.old, budget)?;
     let new = prepared_in(rt.alloc(), &asked.words.new, texts.new, budget)?;
     match (old.made, new.made) {
@@ -167,7 +172,7 @@ fn searched_in(
         Ok(wishes) => wishes,
         Err(status) => return Ok(status.code()),
     };
-    let clock = Clock::new(rt, asked.begun, asked.search.seconds);
+    let clock = Clock::new(rt, asked.begun, asked.search.limits.seconds);
     let mut limits = Limits::new(rt.alloc(), clock, wishes.bounds.memory);
     match pair_in(rt, asked, texts)? {
         Some(pair) => Ok(searched(rt, asked, &wishes, pair, sides, &mut limits)),

@@ -86,7 +86,7 @@ fn names_of(alloc: Global, never: &[String]) -> Result<Vec<Forbidden>, AllocErro
 
 /// What must not be. Where the requirement has no such state, the user is told.
 fn never_of(rt: &HostRuntime, guard: Guard, judge: &Watched) -> Result<Never, Status> {
-    let never = guard.words.never.as_slice();
+    let never = guard.words.wanted.never.as_slice();
     let places = places_of(rt, guard.job, never, judge.watch.as_ref())?;
     match names_of(rt.alloc(), never) {
         Ok(names) => Ok(Never { places, names }),
@@ -99,8 +99,8 @@ fn all_wishes(rt: &HostRuntime, guard: Guard) -> Result<PairWishes, Status> {
     let words = guard.words;
     let units = guard.asked.units;
     let wished = Wished {
-        values: wished_values(rt, units, "values", words.values.as_slice())?,
-        firsts: wished_values(rt, units, "first", words.firsts.as_slice())?,
+        values: wished_values(rt, units, "values", words.alphabet.values.as_slice())?,
+        firsts: wished_values(rt, units, "first", words.alphabet.firsts.as_slice())?,
         old_like: recorded(rt, words)?,
         new_like: None,
     };
@@ -110,7 +110,7 @@ fn all_wishes(rt: &HostRuntime, guard: Guard) -> Result<PairWishes, Status> {
 /// Says what a search answers.
 fn told_answer(rt: &HostRuntime, words: &SearchWords, answer: &WatchedAnswer) -> u8 {
     let written = write(rt, answer.text.as_slice());
-    if !write_trace(rt, &words.out, &answer.trace) || written.is_err() {
+    if !write_trace(rt, &words.wanted.out, &answer.trace) || written.is_err() {
         return Status::InputOutput.code();
     }
     answer.verdict.code()
@@ -151,7 +151,7 @@ fn heard_in<W: Watches>(
 /// All teams, by the one that judges. None where a source has an error.
 fn crew_of(alloc: Global, guard: Guard, judge: Watched) -> Result<Option<Crew>, AllocError> {
     let budget = guard.asked.call.job.budget;
-    let quick = team_of(alloc, guard, guard.words.budget.min(budget))?;
+    let quick = team_of(alloc, guard, guard.words.limits.budget.min(budget))?;
     let witness = team_of(alloc, guard, budget)?;
     match (quick, witness) {
         (Some(quick), Some(witness)) => Ok(Some(Crew {
@@ -176,7 +176,7 @@ fn searched_by(
         places: never.places.as_slice(),
         wishes,
     };
-    let clock = Clock::new(rt, guard.begun, guard.words.seconds);
+    let clock = Clock::new(rt, guard.begun, guard.words.limits.seconds);
     let mut limits = Limits::new(rt.alloc(), clock, wishes.bounds.memory);
     let machine = &crew.judge.run.machine;
     match heard_in(rt, guard, machine, &wishes.old_like, &mut limits) {

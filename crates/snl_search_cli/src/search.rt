@@ -7,7 +7,7 @@ use snl_args::{SearchWords, StopWords};
 use snl_cli::{Asked, part_of, write_suite, write_trace};
 use snl_lexicon::{Scouted, Scouting, scouted_in};
 use snl_search::{SearchAnswer, search};
-use snl_wishes::{Clock, memory_of, opened, told_fault, told_unread, wishes_over};
+use snl_wishes::{Clock, bounds_of, opened, told_fault, told_unread, wishes_over};
 use std::alloc::{AllocError, Global};
 use std::time::Instant;
 
@@ -26,13 +26,13 @@ fn day_in(
     words: &SearchWords,
     begun: Option<Instant>,
 ) -> Result<Option<Day>, u8> {
-    let Some(after) = &words.after else {
+    let Some(after) = &words.alphabet.after else {
         return Ok(None);
     };
     let name = after.trace.as_str();
     let file = opened(rt, name).map_err(|status| status.code())?;
-    let clock = Clock::new(rt, begun, words.seconds);
-    let mut limits = Limits::new(rt.alloc(), clock, memory_of(words));
+    let clock = Clock::new(rt, begun, words.limits.seconds);
+    let mut limits = Limits::new(rt.alloc(), clock, bounds_of(words).memory);
     let trace = match trace_in(rt.alloc(), &file, &mut limits) {
         Ok(trace) => trace,
         Err(WishFault::Unread) => return Err(told_unread(rt, name).code()),
@@ -61,8 +61,8 @@ fn all_wishes(
 /// Says what a search answers.
 fn told_answer(rt: &HostRuntime, words: &SearchWords, answer: &SearchAnswer) -> u8 {
     let written = write(rt, answer.text.as_slice());
-    let is_whole = write_trace(rt, &words.out, &answer.trace)
-        && write_suite(rt, &words.cover, answer.suite.as_slice());
+    let is_whole = write_trace(rt, &words.wanted.out, &answer.trace)
+        && write_suite(rt, &words.wanted.cover, answer.suite.as_slice());
     if !is_whole || written.is_err() {
         return Status::InputOutput.code();
     }
@@ -85,7 +85,7 @@ fn searched(
         Ok(wishes) => wishes,
         Err(status) => return status.code(),
     };
-    let clock = Clock::new(rt, begun, words.seconds);
+    let clock = Clock::new(rt, begun, words.limits.seconds);
     match search(rt.alloc(), scouted, &wishes, clock) {
         Ok(answer) => told_answer(rt, words, &answer),
         Err(fault) => told_fault(rt, words, &fault),
@@ -100,8 +100,8 @@ pub fn answered_search(
     begun: Option<Instant>,
 ) -> u8 {
     let scouting = Scouting {
-        budget: words.budget,
-        never: words.never.as_slice(),
+        budget: words.limits.budget,
+        never: words.wanted.never.as_slice(),
     };
     let Ok(Answered { messages, made }) = scouted_in(
         rt.alloc(),

@@ -68,11 +68,11 @@ fn words_of(alloc: Global, never: &Never) -> Result<Vec<String>, AllocError> {
 fn refused(words: &SearchWords, call_has_units: bool) -> Option<&'static str> {
     if words.watch.is_some() {
         Some("--watch is not taken here: a requirement is NAME.watch.st")
-    } else if words.out.is_some() {
+    } else if words.wanted.out.is_some() {
         Some("--out is not taken here: a test writes no file")
-    } else if words.cover.is_some() {
+    } else if words.wanted.cover.is_some() {
         Some("--cover is not taken here: a test writes no file")
-    } else if words.after.is_some() {
+    } else if words.alphabet.after.is_some() {
         Some("--after is not taken here: a test starts with first values")
     } else if call_has_units {
         Some("--units is not taken here: values are whole numbers")
@@ -83,10 +83,10 @@ fn refused(words: &SearchWords, call_has_units: bool) -> Option<&'static str> {
 
 /// The recorded trace that a file names is one of its folder.
 fn placed(alloc: Global, folder: &Folder, words: &mut SearchWords) -> Result<(), AllocError> {
-    if let Some(like) = &words.like {
+    if let Some(like) = &words.wanted.like {
         let (front, name) = (folder.front.as_str(), like.as_str());
         let path = format!(in alloc; "{front}{name}")?;
-        words.like = Some(path);
+        words.wanted.like = Some(path);
     }
     Ok(())
 }
@@ -176,7 +176,7 @@ fn searched(
         Err(Status::Memory) => return Err(Halt::End(Status::Memory)),
         Err(_) => return Err(unread_like(rt, name)),
     };
-    let clock = Clock::new(rt, Instant::now(rt).ok(), words.seconds);
+    let clock = Clock::new(rt, Instant::now(rt).ok(), words.limits.seconds);
     match sought(rt.alloc(), scouted, &wishes, clock, is_ever) {
         Ok(sought) => Ok(verdict_by(rt.alloc(), &sought)?),
         Err(fault) => Err(wrong_wish(rt, name, &fault)),
@@ -205,8 +205,8 @@ fn tested_source(
         return Err(wrong_never(rt, name, "it asks for no search"));
     };
     let scouting = Scouting {
-        budget: words.budget,
-        never: words.never.as_slice(),
+        budget: words.limits.budget,
+        never: words.wanted.never.as_slice(),
     };
     let Answered { messages, made } = scouted_in(rt.alloc(), job, source, &scouting)?;
     match made {

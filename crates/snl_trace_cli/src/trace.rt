@@ -32,7 +32,7 @@ fn is_time(rt: &HostRuntime, option: &str, word: &Option<String>) -> bool {
 
 /// Sees that the times of a call are some. Where one is not, standard error tells so.
 pub fn check_times(rt: &HostRuntime, words: &TraceWords) -> Result<(), Status> {
-    if is_time(rt, "from", &words.from) && is_time(rt, "to", &words.to) {
+    if is_time(rt, "from", &words.span.from) && is_time(rt, "to", &words.span.to) {
         Ok(())
     } else {
         Err(Status::Usage)
@@ -94,19 +94,19 @@ fn wishes_of(
         maker: maker(alloc)?,
         program: None,
         units,
-        scales: numbers(alloc, words.scales.as_slice())?,
-        texts: texts(alloc, words.texts.as_slice())?,
-        values: numbers(alloc, words.values.as_slice())?,
+        scales: numbers(alloc, words.meanings.scales.as_slice())?,
+        texts: texts(alloc, words.meanings.texts.as_slice())?,
+        values: numbers(alloc, words.meanings.values.as_slice())?,
         tells_alarms: words.tells_alarms,
         lead: u64::from(words.lead).saturating_mul(SECOND),
-        from: moment_in(&words.from),
-        to: moment_in(&words.to),
+        from: moment_in(&words.span.from),
+        to: moment_in(&words.span.to),
     })
 }
 
 /// Says that a log could not be read on.
 fn told_broken(rt: &HostRuntime, words: &TraceWords, file: &[u8]) -> Status {
-    for log in &words.logs {
+    for log in &words.span.logs {
         if log.as_bytes() == file {
             return told_unread(rt, log.as_str());
         }

@@ -13,7 +13,7 @@ fn told_bad_line(rt: &HostRuntime, name: &str, fault: &WishFault) -> u8 {
 
 /// Says what is wrong with a wish of a call. Answers the status.
 pub fn told_fault(rt: &HostRuntime, words: &SearchWords, fault: &WishFault) -> u8 {
-    match (fault, &words.like, &words.after) {
+    match (fault, &words.wanted.like, &words.alphabet.after) {
         (WishFault::Memory, _, _) => Status::Memory.code(),
         (WishFault::Unread, Some(name), _) => told_unread(rt, name.as_str()).code(),
         (WishFault::BadLine(_, _), Some(name), _) => told_bad_line(rt, name.as_str(), fault),

@@ -12,4 +12,4 @@ pub use clock::Clock;
 pub use faults::told_fault;
 pub use traces::{opened, recorded, told_unread};
 pub use units::wished_values;
-pub use wishes::{memory_of, owned, times_of, wishes_over};
+pub use wishes::{bounds_of, owned, times_of, wishes_over};

@@ -22,7 +22,7 @@ pub fn opened(rt: &HostRuntime, name: &str) -> Result<File, Status> {
 
 /// The recorded trace that the words of a call name, if they do. Where it cannot be opened, the user is told.
 pub fn recorded(rt: &HostRuntime, words: &SearchWords) -> Result<Option<File>, Status> {
-    match &words.like {
+    match &words.wanted.like {
         Some(name) => Ok(Some(opened(rt, name.as_str())?)),
         None => Ok(None),
     }

@@ -34,9 +34,9 @@ fn wished_in(
     units: &[ChannelUnits],
 ) -> Result<Wished, Status> {
     Ok(Wished {
-        never: wished_lines(rt, units, words.never.as_slice())?,
-        values: wished_values(rt, units, "values", words.values.as_slice())?,
-        firsts: wished_values(rt, units, "first", words.firsts.as_slice())?,
+        never: wished_lines(rt, units, words.wanted.never.as_slice())?,
+        values: wished_values(rt, units, "values", words.alphabet.values.as_slice())?,
+        firsts: wished_values(rt, units, "first", words.alphabet.firsts.as_slice())?,
     })
 }
 
@@ -48,9 +48,14 @@ pub fn times_of(alloc: Global, times: &Option<Vec<u64>>) -> Result<Option<Vec<u6
     }
 }
 
-/// How many bytes a search may take, by the words of its call.
-pub fn memory_of(words: &SearchWords) -> u64 {
-    u64::from(words.memory).saturating_mul(1_000_000)
+/// Where a search stops, by the words of its call.
+pub fn bounds_of(words: &SearchWords) -> Bounds {
+    Bounds {
+        lines: words.limits.lines as usize,
+        worlds: words.limits.worlds as usize,
+        memory: u64::from(words.limits.memory).saturating_mul(1_000_000),
+        covers: words.wanted.cover.is_some(),
+    }
 }
 
 /// What the words of a call wish. `like` is the recorded trace that they name, and `day` that in which the search starts.
@@ -69,21 +74,16 @@ fn wishes_of(
     } = wished;
     Ok(Wishes {
         never,
-        ends: owned(alloc, words.ends.as_slice())?,
+        ends: owned(alloc, words.wanted.ends.as_slice())?,
         like,
         day,
         values,
         firsts,
-        gaps: times_of(alloc, &words.gaps)?,
-        down: owned(alloc, words.down.as_slice())?,
+        gaps: times_of(alloc, &words.alphabet.gaps)?,
+        down: owned(alloc, words.alphabet.down.as_slice())?,
         part,
-        bounds: Bounds {
-            lines: words.lines as usize,
-            worlds: words.worlds as usize,
-            memory: memory_of(words),
-            covers: words.cover.is_some(),
-        },
-        budget: words.budget,
+        bounds: bounds_of(words),
+        budget: words.limits.budget,
     })
 }
 
