@@ -1,7 +1,7 @@
 //! Where a search starts in a recorded day: `--after`, `--every` and `--at`.
 
 use crate::ats::times_in;
-use crate::calls::CallFault;
+use crate::calls::{CallFault, usage};
 use crate::searches::bad_text;
 use clap::ArgMatches;
 use std::alloc::{AllocError, Global};
@@ -26,8 +26,8 @@ pub struct AfterWords {
 
 /// The error of an option that stands without another one, or beside it.
 fn misplaced(alloc: Global, option: &str, how: &str) -> CallFault {
-    match format!(in alloc; "error: '--{option}' {how}\n\nFor more information, try '--help'.\n") {
-        Ok(text) => CallFault::Usage(text),
+    match format!(in alloc; "'--{option}' {how}") {
+        Ok(wrong) => usage(alloc, wrong.as_str()),
         Err(_) => CallFault::Memory,
     }
 }

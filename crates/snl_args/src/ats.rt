@@ -56,10 +56,10 @@ pub(crate) fn times_in(alloc: Global, text: &str) -> Result<Option<Vec<u64>>, Al
 
 /// What is told of words that are no times.
 fn bad_times(alloc: Global, text: &str) -> Result<CallFault, AllocError> {
-    Ok(CallFault::Usage(format!(in alloc;
-        "error: '{text}' is no time: times are whole numbers of milliseconds, as in 4100 or 4100,5200\n\n\
-         For more information, try '--help'.\n"
-    )?))
+    let wrong = format!(in alloc;
+        "'{text}' is no time: times are whole numbers of milliseconds, as in 4100 or 4100,5200"
+    )?;
+    Ok(usage(alloc, wrong.as_str()))
 }
 
 /// The times of a call, as the command found them.
@@ -76,7 +76,7 @@ pub(crate) fn at_event(alloc: Global, matches: &ArgMatches) -> Result<AtWords, C
     match matches.get_str("into") {
         Some(_) if matches.get_flag("trip") => Err(usage(
             alloc,
-            "error: '--trip' and '--into SS.STATE' are not both taken\n\nFor more information, try '--help'.\n",
+            "'--trip' and '--into SS.STATE' are not both taken",
         )),
         Some(state) => Ok(AtWords::Into(String::from_str(alloc, state)?)),
         None => Ok(AtWords::Trip),

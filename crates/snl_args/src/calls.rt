@@ -4,7 +4,7 @@ use crate::explains::read_explain;
 use crate::forms::{CallForm, form_of, found_in};
 use crate::found::{budget_in, job_in, text_in};
 use crate::language::with_help;
-use crate::texts::{HELP, WORDS};
+use crate::texts::{ABOUT, MORE, WORDS};
 use crate::words::{NAMES, Word, word_in};
 use clap::error::ErrorKind;
 use clap::{ArgMatches, Command, Error};
@@ -61,9 +61,9 @@ impl From<AllocError> for CallFault {
     }
 }
 
-/// The fault of words that are no call, with a text about them.
-pub(crate) fn usage(alloc: Global, text: &str) -> CallFault {
-    match String::from_str(alloc, text) {
+/// The fault of words that are no call, by what is wrong with them.
+pub(crate) fn usage(alloc: Global, wrong: &str) -> CallFault {
+    match format!(in alloc; "error: {wrong}\n\nFor more information, try '--help'.\n") {
         Ok(text) => CallFault::Usage(text),
         Err(_) => CallFault::Memory,
     }
@@ -107,22 +107,20 @@ fn meant(alloc: Global, name: &str) -> Result<Option<&'static str>, AllocError> 
     Ok(None)
 }
 
-/// The text about a first word that is none, with the one that may have been meant.
-fn no_word(alloc: Global, name: &str) -> Result<String, AllocError> {
-    match meant(alloc, name)? {
-        Some(word) => format!(in alloc;
-            "error: there is no word '{name}'; did you mean '{word}'?\n{WORDS}"
-        ),
-        None => format!(in alloc; "error: there is no word '{name}'\n{WORDS}"),
-    }
+/// The fault of words that begin with none that is known, by what is wrong with them.
+fn no_word(alloc: Global, wrong: &str) -> Result<CallFault, AllocError> {
+    Ok(CallFault::Usage(format!(in alloc;
+        "error: {wrong}\n\n{WORDS}\nFor more information, try 'snl --help'.\n"
+    )?))
 }
 
-/// What is told where there is no word.
-fn no_words(alloc: Global) -> CallFault {
-    match format!(in alloc; "error: no word was given\n{WORDS}") {
-        Ok(text) => CallFault::Usage(text),
-        Err(_) => CallFault::Memory,
-    }
+/// The fault of a first word that is none, with the one that may have been meant.
+fn unknown_word(alloc: Global, name: &str) -> Result<CallFault, AllocError> {
+    let wrong = match meant(alloc, name)? {
+        Some(word) => format!(in alloc; "there is no word '{name}'; did you mean '{word}'?")?,
+        None => format!(in alloc; "there is no word '{name}'")?,
+    };
+    no_word(alloc, wrong.as_str())
 }
 
 /// What a first word tells, where it is none that asks for something.
@@ -134,11 +132,11 @@ fn fault_of(
 ) -> Result<CallFault, AllocError> {
     match name {
         "explain" => Ok(read_explain(alloc, words)),
-        "--help" => Ok(CallFault::Told(String::from_str(alloc, HELP)?)),
+        "--help" => Ok(CallFault::Told(format!(in alloc; "{ABOUT}\n{WORDS}\n{MORE}")?)),
         "--version" => Ok(CallFault::Told(format!(in alloc;
             "snl {version}\nLicence: Apache-2.0\n"
         )?)),
-        _ => Ok(CallFault::Usage(no_word(alloc, name)?)),
+        _ => unknown_word(alloc, name),
     }
 }
 
@@ -201,7 +199,7 @@ fn call_by(
     version: &str,
 ) -> Result<Call, CallFault> {
     let [first, more @ ..] = words else {
-        return Err(no_words(alloc));
+        return Err(no_word(alloc, "no word was given")?);
     };
     match form_of(first, more) {
         Some(form) => read_form(alloc, form, more, options),

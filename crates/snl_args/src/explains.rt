@@ -1,7 +1,7 @@
 //! What follows the word `explain`: the name of a message or of a lint, whose section is told.
 
 use crate::arguments::{Argument, Takes, argument_list};
-use crate::calls::CallFault;
+use crate::calls::{CallFault, usage};
 use crate::forms::{Synopsis, found_by};
 use crate::texts;
 use snl_pages::{nearest_name, page_named};
@@ -23,9 +23,10 @@ fn section_of(alloc: Global, name: &str) -> Result<CallFault, AllocError> {
         Some(text) => Ok(CallFault::Told(String::from_str(alloc, text)?)),
         None => {
             let nearest = nearest_name(alloc, name)?;
-            Ok(CallFault::Usage(format!(in alloc;
-                "error: there is no message and no lint '{name}'; the nearest is '{nearest}'\n\nFor more information, try '--help'.\n"
-            )?))
+            let wrong = format!(in alloc;
+                "there is no message and no lint '{name}'; the nearest is '{nearest}'"
+            )?;
+            Ok(usage(alloc, wrong.as_str()))
         }
     }
 }

@@ -27,8 +27,7 @@ pub(crate) fn run_words(
     if watch.is_none() && !never.is_empty() {
         return Err(usage(
             alloc,
-            "error: '--never SS.STATE' names a state of a requirement, and there is none: it is a program behind --watch\n\n\
-             For more information, try '--help'.\n",
+            "'--never SS.STATE' names a state of a requirement, and there is none: it is a program behind --watch",
         ));
     }
     Ok(RunWords {

@@ -1,7 +1,7 @@
 //! What follows the word `search`: what is looked for, over which values, and where the search stops.
 
 use crate::afters::{AfterWords, after_in};
-use crate::calls::CallFault;
+use crate::calls::{CallFault, usage};
 use crate::found::{pushed, text_in, texts_in};
 use clap::ArgMatches;
 use snc_args::Job;
@@ -318,9 +318,8 @@ fn check_watched(
     let Some(option) = unwatched_option(wanted, alphabet) else {
         return Ok(());
     };
-    Err(CallFault::Usage(format!(in alloc;
-        "error: '{option}' does not go with --watch\n\nFor more information, try '--help'.\n"
-    )?))
+    let wrong = format!(in alloc; "'{option}' does not go with --watch")?;
+    Err(usage(alloc, wrong.as_str()))
 }
 
 /// What a search is asked for, as a command found it.

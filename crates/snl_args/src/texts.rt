@@ -10,10 +10,8 @@ pub(crate) struct Texts {
     pub more: &'static str,
 }
 
-/// What `snl --help` tells.
-pub(crate) static HELP: &str = "\
-The companion of snc and snlrun: what goes round a dry run of a program in the State Notation Language.
-
+/// What the words do, in groups.
+pub(crate) static WORDS: &str = "\
 Usage: snl [+X|-X].. WORD [OPTIONS] ..
 
 Look:
@@ -36,7 +34,15 @@ Run:
 
 Search:
   search  Traces over a small alphabet, the shortest first, for what must not happen
+";
 
+/// What `snl --help` tells in front of the words.
+pub(crate) static ABOUT: &str = "\
+The companion of snc and snlrun: what goes round a dry run of a program in the State Notation Language.
+";
+
+/// What `snl --help` tells behind the words.
+pub(crate) static MORE: &str = "\
 snl WORD --help tells what a word takes, with an example, and snl --version the version.
 
 Options of the language: a sign and letters, as +u (more warnings) or -w (no warnings).
@@ -46,34 +52,6 @@ the call are wrong, 3 the file, the input or the output failed, 4 memory ran out
 5 the program faulted, 6 a line of the trace is bad, 7 a bound stopped a search.
 
 Licence: Apache-2.0
-";
-
-/// What is told behind words that begin with none that is known.
-pub(crate) static WORDS: &str = "
-Usage: snl [+X|-X].. WORD [OPTIONS] ..
-
-Look:
-  check   The messages about a program, and what in it is seldom meant
-  explain The section of the manual about a message or a lint
-  waits   When a program begins over a trace, or what it still waits for
-  cover   What of a program no run showed: clauses, states, channels
-  graph   A picture of a program, for Graphviz
-  tree    The tree of a program as JSON, for scripts
-  sets    The state sets of a program and their states, with numbers and lines
-
-Record:
-  trace   Recorded logs of channels as a trace: camonitor, CSV, JSON, exports
-
-Run:
-  run     A run with notes on what fired and why, blocks that repeat folded, and a summary
-  at      The state of a program at a time of a trace, and what its clauses wait for
-  same    Where two programs differ over a trace, or over any
-  test    Programs beside recorded traces and the outputs that are wanted
-
-Search:
-  search  Traces over a small alphabet, the shortest first, for what must not happen
-
-For more information, try 'snl --help'.
 ";
 
 /// What `snl waits --help` tells.

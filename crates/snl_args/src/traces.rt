@@ -218,10 +218,7 @@ fn enums_of(alloc: Global, matches: &ArgMatches) -> Result<Vec<NamedText>, CallF
 fn names_program(alloc: Global, matches: &ArgMatches) -> Result<bool, CallFault> {
     let has_program = matches.get_str("FILE").is_some();
     if !has_program && matches.get_str("MACROS").is_some() {
-        return Err(usage(
-            alloc,
-            "error: '--macros' says nothing without '--program'\n\nFor more information, try '--help'.\n",
-        ));
+        return Err(usage(alloc, "'--macros' says nothing without '--program'"));
     }
     Ok(has_program)
 }
