@@ -1,8 +1,14 @@
 //! What a call answers.
 
+ghost use Rattle.std.specs.Prelude.{◌≡◌};
+ghost use Rattle.snc.specs.declared.jobs.Status.TheVariants.{Memory};
+
+use std::alloc::{AllocError, AllocFailed};
+
 /// What a program of ours answers to the shell.
 #[derive(Clone, Copy, Debug, PartialEq, Eq)]
 pub enum Status {
+    /// What was asked for is done.
     Well,
     /// The source has an error.
     SourceErrors,
@@ -18,8 +24,23 @@ pub enum Status {
     TraceFault,
 }
 
+impl From<AllocError> for Status {
+    ghost from_gives = { λ _ status. status ≡ Memory };
+
+    fn from(_error: AllocError) -> Status {
+        Status::Memory
+    }
+}
+
+impl<T: Drop> From<AllocFailed<T>> for Status {
+    ghost from_gives = { λ _ status. status ≡ Memory };
+
+    fn from(_refused: AllocFailed<T>) -> Status {
+        Status::Memory
+    }
+}
+
 impl Status {
-    ghost use Rattle.std.specs.Prelude.{◌≡◌};
     ghost use Rattle.snc.specs.Outcomes.{code_of};
 
     /// The number that the shell sees.

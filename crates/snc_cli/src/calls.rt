@@ -3,7 +3,7 @@
 use crate::output::Outlet;
 use snc::{Job, Status, Tool, WordsFault, read_words};
 use std::env;
-use std::io::{self, ErrorKind, Write};
+use std::io::{ErrorKind, Write};
 
 /// What the words of this call ask for. Where they ask for nothing that can be done, the user is told why, and the answer
 /// is the status: `Well` behind help, `Usage` behind words that are no call, `InputOutput` where help could not be
@@ -28,7 +28,7 @@ pub fn words_of(rt: &HostRuntime) -> Result<Vec<String>, Status> {
         }
     };
     let _program = given.next();
-    given.collect(rt.alloc()).map_err(|_| Status::Memory)
+    Ok(given.collect(rt.alloc())?)
 }
 
 /// Tells the user what is wrong with the words, or the help that was asked for.
@@ -44,7 +44,7 @@ fn told(rt: &HostRuntime, fault: &WordsFault) -> Status {
         }
         WordsFault::Help(text) => match write(rt, text.as_bytes()) {
             Ok(()) => Status::Well,
-            Err(_) => Status::InputOutput,
+            Err(status) => status,
         },
         WordsFault::Memory => Status::Memory,
     }
@@ -52,9 +52,11 @@ fn told(rt: &HostRuntime, fault: &WordsFault) -> Status {
 
 /// Writes text to standard output, and waits until it is there. An empty text leaves standard output untouched.
 ///
-/// Fails where standard output does.
-pub fn write(rt: &HostRuntime, text: &[u8]) -> io::Result<()> {
-    Outlet::new(rt.stdout()).write_out(text)
+/// `InputOutput` where standard output fails.
+pub fn write(rt: &HostRuntime, text: &[u8]) -> Result<(), Status> {
+    Outlet::new(rt.stdout())
+        .write_out(text)
+        .map_err(|_| Status::InputOutput)
 }
 
 /// Writes text to standard error. Where that fails, there is nobody left to tell, and the status says how it ended.

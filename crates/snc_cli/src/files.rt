@@ -12,9 +12,24 @@ use std::io::{ErrorKind, Read};
 pub fn source_of(rt: &HostRuntime, program: &str, path: &str) -> Result<Vec<u8>, Status> {
     let bytes = bytes_of(rt, path);
     if let Err(Status::InputOutput) = &bytes {
-        let _ = eprintln!(rt; "{program}: cannot read {path}");
+        told_unread(rt, program, path);
     }
     bytes
+}
+
+/// Tells that a file cannot be read, as `PROGRAM: cannot read FILE`; answers the status.
+pub fn told_unread(rt: &HostRuntime, program: &str, path: &str) -> Status {
+    let _ = eprintln!(rt; "{program}: cannot read {path}");
+    Status::InputOutput
+}
+
+/// A file that is read piece by piece. Where it cannot be opened, the user is told.
+pub fn opened(rt: &HostRuntime, program: &str, path: &str) -> Result<File, Status> {
+    match File::open(rt, path) {
+        Ok(file) => Ok(file),
+        Err(fault) if fault.kind() == ErrorKind::OutOfMemory => Err(Status::Memory),
+        Err(_) => Err(told_unread(rt, program, path)),
+    }
 }
 
 /// The same, where `-` stands for standard input: that is read to its end then, or as far as a source may go.
@@ -24,7 +39,7 @@ pub fn source_in(rt: &HostRuntime, program: &str, path: &str) -> Result<Vec<u8>,
     }
     let bytes = front_of(rt, rt.stdin());
     if let Err(Status::InputOutput) = &bytes {
-        let _ = eprintln!(rt; "{program}: cannot read standard input");
+        told_unread(rt, program, "standard input");
     }
     bytes
 }

@@ -8,6 +8,6 @@ mod output;
 mod streams;
 
 pub use calls::{job_of, tell, words_of, write};
-pub use files::{source_in, source_of};
+pub use files::{opened, source_in, source_of, told_unread};
 pub use output::{Lines, Outlet};
 pub use streams::{Noted, Stream};

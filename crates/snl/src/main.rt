@@ -9,7 +9,7 @@ use snl_args::{Call, CallFault, SameWords, SearchWords, Word, read_call};
 use snl_cli::{
     Asked, VERSION, answered_at, answered_checks, answered_cover, answered_graph, answered_run,
     answered_same, answered_sets, answered_tree, answered_waits, check_counts, check_lints,
-    check_macros, check_outputs, notes_of,
+    check_macros, check_outputs, code_of, notes_of,
 };
 use snl_pair_cli::{answered_contrast, answered_guard};
 use snl_search_cli::{answered_join, answered_search};
@@ -19,12 +19,14 @@ use std::process::ExitCode;
 use std::time::Instant;
 
 fn main(rt: HostRuntime) -> ExitCode {
-    let begun = Instant::now(&rt).ok();
-    let code = match call_of(&rt) {
-        Ok(call) => answered(&rt, &call, begun),
-        Err(status) => status.code(),
-    };
-    ExitCode::from(code)
+    ExitCode::from(code_of(done(&rt)))
+}
+
+/// Does what the words of this call ask for. Answers the exit status.
+fn done(rt: &HostRuntime) -> Result<u8, Status> {
+    let begun = Instant::now(rt).ok();
+    let call = call_of(rt)?;
+    answered(rt, &call, begun)
 }
 
 /// What the words of this call ask for. Where they ask for nothing that can be done, the user is told why, and the answer is
@@ -64,10 +66,15 @@ fn check_same(rt: &HostRuntime, call: &Call, words: &SameWords) -> Result<(), St
 }
 
 /// Compares two programs over a trace, or over every trace. Answers the exit status.
-fn answered_pair(rt: &HostRuntime, call: &Call, words: &SameWords, begun: Option<Instant>) -> u8 {
+fn answered_pair(
+    rt: &HostRuntime,
+    call: &Call,
+    words: &SameWords,
+    begun: Option<Instant>,
+) -> Result<u8, Status> {
     match &words.search {
         Some(search) => answered_contrast(rt, call, words, search, begun),
-        None => code_of(answered_same(rt, call, words)),
+        None => Ok(answered_same(rt, call, words)?.code()),
     }
 }
 
@@ -84,54 +91,36 @@ fn told(rt: &HostRuntime, fault: &CallFault) -> Status {
         }
         CallFault::Told(text) => match write(rt, text.as_bytes()) {
             Ok(()) => Status::Well,
-            Err(_) => Status::InputOutput,
+            Err(status) => status,
         },
         CallFault::Memory => Status::Memory,
     }
 }
 
 /// Does what a call asks for that began at a time. Answers the exit status.
-fn answered(rt: &HostRuntime, call: &Call, begun: Option<Instant>) -> u8 {
+fn answered(rt: &HostRuntime, call: &Call, begun: Option<Instant>) -> Result<u8, Status> {
     match &*call.word {
-        Word::Check(words) => answered_checks(rt, call, words).code(),
-        Word::Trace(words) => code_of(answered_trace(rt, call, words)),
+        Word::Check(words) => Ok(answered_checks(rt, call, words).code()),
+        Word::Trace(words) => Ok(answered_trace(rt, call, words)?.code()),
         Word::Same(words) => answered_pair(rt, call, words, begun),
         Word::Join(words) => answered_join(rt, words),
-        Word::Test(words) => code_of(answered_test(rt, call, words)),
+        Word::Test(words) => Ok(answered_test(rt, call, words)?.code()),
         _ => answered_program(rt, call, begun),
     }
 }
 
 /// Does what a call asks for of a program, and answers the exit status.
-fn answered_program(rt: &HostRuntime, call: &Call, begun: Option<Instant>) -> u8 {
-    let units = match units_for(rt, call) {
-        Ok(units) => units,
-        Err(status) => return status.code(),
-    };
-    let source = match source_in(rt, "snl", call.job.file.as_str()) {
-        Ok(source) => source,
-        Err(status) => return status.code(),
-    };
-    let source = source.as_slice();
-    let notes = match notes_of(rt, source, call) {
-        Ok(notes) => notes,
-        Err(status) => return status.code(),
-    };
-    let notes = notes.as_slice();
+fn answered_program(rt: &HostRuntime, call: &Call, begun: Option<Instant>) -> Result<u8, Status> {
+    let units = units_for(rt, call)?;
+    let source = source_in(rt, "snl", call.job.file.as_str())?;
+    let notes = notes_of(rt, source.as_slice(), call)?;
     let asked = Asked {
-        source,
+        source: source.as_slice(),
         call,
-        notes,
+        notes: notes.as_slice(),
         units: units.as_slice(),
     };
     answered_word(rt, asked, begun)
-}
-
-/// The exit status of what was done, or of why it could not be done.
-fn code_of(done: Result<Status, Status>) -> u8 {
-    match done {
-        Ok(status) | Err(status) => status.code(),
-    }
 }
 
 /// Searches a program, or one that a requirement watches. Answers the exit status.
@@ -140,7 +129,7 @@ fn answered_sought(
     asked: Asked,
     words: &SearchWords,
     begun: Option<Instant>,
-) -> u8 {
+) -> Result<u8, Status> {
     match &words.watch {
         Some(job) => answered_guard(rt, asked, words, job, begun),
         None => answered_search(rt, asked, words, begun),
@@ -148,20 +137,21 @@ fn answered_sought(
 }
 
 /// Does what a word asks for of a program, and answers the exit status.
-fn answered_word(rt: &HostRuntime, asked: Asked, begun: Option<Instant>) -> u8 {
-    match &*asked.call.word {
-        Word::Waits => code_of(answered_waits(rt, asked)),
-        Word::Run(words) => code_of(answered_run(rt, asked, words)),
-        Word::At(words) => code_of(answered_at(rt, asked, words)),
-        Word::Cover(words) => code_of(answered_cover(rt, asked, words)),
-        Word::Graph(words) => code_of(answered_graph(rt, asked, words)),
-        Word::Search(words) => answered_sought(rt, asked, words, begun),
-        Word::Join(words) => answered_join(rt, words),
-        Word::Tree => code_of(answered_tree(rt, asked)),
-        Word::Sets(declares) => code_of(answered_sets(rt, asked, *declares)),
-        Word::Check(words) => answered_checks(rt, asked.call, words).code(),
-        Word::Same(words) => answered_pair(rt, asked.call, words, begun),
-        Word::Trace(words) => code_of(answered_trace(rt, asked.call, words)),
-        Word::Test(words) => code_of(answered_test(rt, asked.call, words)),
-    }
+fn answered_word(rt: &HostRuntime, asked: Asked, begun: Option<Instant>) -> Result<u8, Status> {
+    let status = match &*asked.call.word {
+        Word::Waits => answered_waits(rt, asked),
+        Word::Run(words) => answered_run(rt, asked, words),
+        Word::At(words) => answered_at(rt, asked, words),
+        Word::Cover(words) => answered_cover(rt, asked, words),
+        Word::Graph(words) => answered_graph(rt, asked, words),
+        Word::Tree => answered_tree(rt, asked),
+        Word::Sets(declares) => answered_sets(rt, asked, *declares),
+        Word::Search(words) => return answered_sought(rt, asked, words, begun),
+        Word::Check(words) => Ok(answered_checks(rt, asked.call, words)),
+        Word::Trace(words) => answered_trace(rt, asked.call, words),
+        Word::Test(words) => answered_test(rt, asked.call, words),
+        Word::Join(words) => return answered_join(rt, words),
+        Word::Same(words) => return answered_pair(rt, asked.call, words, begun),
+    };
+    Ok(status?.code())
 }

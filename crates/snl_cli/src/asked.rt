@@ -1,8 +1,17 @@
 //! What a call asks for, with what is known before it is done.
 
+use snc::Status;
 use snc_cli::tell;
 use snl_args::Call;
 use snl_units::ChannelUnits;
+
+/// The exit status of what was done, or of why it could not be done.
+pub fn code_of(done: Result<u8, Status>) -> u8 {
+    match done {
+        Ok(code) => code,
+        Err(status) => status.code(),
+    }
+}
 
 /// A call and its source.
 #[derive(Clone, Copy)]

@@ -4,7 +4,7 @@ ghost use Rattle.snl_moments.specs.Loaded.{IsUntold};
 
 use crate::asked::Asked;
 use crate::input::Input;
-use crate::trace_report::{clock_text, tell_bad_line};
+use crate::trace_report::tell_bad_line;
 use snc::{Answered, Status};
 use snc_cli::write;
 use snl_args::AtWords;
@@ -23,34 +23,25 @@ fn count_of(words: &AtWords) -> usize {
 
 /// The name of the state that may have been meant: one of which less than half the letters have to be changed, and the fewest.
 fn meant(rt: &HostRuntime, scene: &Scene, name: &str) -> Result<Option<Vec<u8>>, Status> {
-    let Ok(places) = scene.places(rt.alloc()) else {
-        return Err(Status::Memory);
-    };
+    let places = scene.places(rt.alloc())?;
     let mut best: Option<Vec<u8>> = None;
     let mut least = name.len().div_ceil(2);
     for place in places {
         let Ok(text) = str::from_utf8(place.as_slice()) else {
             continue;
         };
-        match levenshtein(rt.alloc(), name, text) {
-            Ok(distance) if distance < least => {
-                least = distance;
-                best = Some(place);
-            }
-            Ok(_) => {}
-            Err(_) => return Err(Status::Memory),
+        let distance = levenshtein(rt.alloc(), name, text)?;
+        if distance < least {
+            least = distance;
+            best = Some(place);
         }
     }
     Ok(best)
 }
 
 /// Tells the user that there is no such state.
-fn told_unknown(rt: &HostRuntime, scene: &Scene, name: &str) -> Status {
-    let meant = match meant(rt, scene, name) {
-        Ok(meant) => meant,
-        Err(status) => return status,
-    };
-    match &meant {
+fn told_unknown(rt: &HostRuntime, scene: &Scene, name: &str) -> Result<Status, Status> {
+    match &meant(rt, scene, name)? {
         Some(place) => {
             let hint = str::from_utf8(place.as_slice()).unwrap_or("");
             let _ = eprintln!(rt; "error: '--into {name}' names no state; did you mean '{hint}'?");
@@ -61,7 +52,7 @@ fn told_unknown(rt: &HostRuntime, scene: &Scene, name: &str) -> Status {
             );
         }
     }
-    Status::Usage
+    Ok(Status::Usage)
 }
 
 /// What is asked for, with states by their numbers. Where there is no such state, the user is told.
@@ -75,7 +66,7 @@ fn asked_for<'w>(
         AtWords::Trip => Ok(Moments::Trip),
         AtWords::Into(name) => match scene.place(name.as_bytes()) {
             Some((set, state)) => Ok(Moments::Into(set, state)),
-            None => Err(told_unknown(rt, scene, name.as_str())),
+            None => Err(told_unknown(rt, scene, name.as_str())?),
         },
     }
 }
@@ -114,7 +105,7 @@ fn told(
     trace: &Input<'_>,
 ) -> Result<Status, Status> {
     let end = end_of(answer.close);
-    let clock = clock_text(rt, trace.heard(), end, b"")?;
+    let clock = trace.heard().clock_text(rt.alloc(), end, b"")?;
     let is_written = end == End::SourceFailed
         || (write(rt, answer.text.as_slice()).is_ok() && write(rt, clock.as_slice()).is_ok());
     asked.tell(rt, messages);
@@ -138,10 +129,8 @@ fn looked_at<'c>(
 {
     let moments = asked_for(rt, scene, words)?;
     let mut trace = Input::new(rt, asked.call.progress, asked.compared())?;
-    match tell_moments(rt.alloc(), scene, moments, &mut trace) {
-        Ok(answer) => told(rt, asked, words, messages, &answer, &trace),
-        Err(_) => Err(Status::Memory),
-    }
+    let answer = tell_moments(rt.alloc(), scene, moments, &mut trace)?;
+    told(rt, asked, words, messages, &answer, &trace)
 }
 
 /// `snl at`.
@@ -151,10 +140,7 @@ pub fn answered_at<'c>(
     words: &AtWords,
 ) -> Result<Status, Status> {
     let Asked { source, call, .. } = asked;
-    let Ok(ready) = ready_of(rt.alloc(), source, &call.job, count_of(words)) else {
-        return Err(Status::Memory);
-    };
-    let Answered { messages, made } = ready;
+    let Answered { messages, made } = ready_of(rt.alloc(), source, &call.job, count_of(words))?;
     let Some(mut scene) = made else {
         asked.tell(rt, messages.as_slice());
         return Ok(Status::SourceErrors);

@@ -96,49 +96,41 @@ fn told_remarks(
     words: &CheckWords,
     messages: &[u8],
     lines: &[u8],
-) -> Status {
-    let status = told_messages(rt, piece, words.format, messages);
-    if status != Status::Well {
-        return status;
-    }
-    if write(rt, lines).is_err() {
-        return Status::InputOutput;
-    }
+) -> Result<Status, Status> {
+    tell_messages(rt, piece, words.format, messages)?;
+    write(rt, lines)?;
     if words.is_strict && !lines.is_empty() {
-        Status::SourceErrors
+        Ok(Status::SourceErrors)
     } else {
-        Status::Well
+        Ok(Status::Well)
     }
 }
 
 /// Writes the messages, and a note on each behind them.
-fn told_messages(rt: &HostRuntime, piece: SourceJob, format: Format, messages: &[u8]) -> Status {
-    let Ok(notes) = notes_on(rt, piece, format, messages) else {
-        return Status::Memory;
-    };
-    if write(rt, in_front(format, messages)).is_ok() && write(rt, notes.as_slice()).is_ok() {
-        Status::Well
-    } else {
-        Status::InputOutput
-    }
-}
-
-/// The same of a program that has an error.
-fn told_errors(rt: &HostRuntime, piece: SourceJob, format: Format, messages: &[u8]) -> Status {
-    match told_messages(rt, piece, format, messages) {
-        Status::Well => Status::SourceErrors,
-        failed => failed,
-    }
+fn tell_messages(
+    rt: &HostRuntime,
+    piece: SourceJob,
+    format: Format,
+    messages: &[u8],
+) -> Result<(), Status> {
+    let notes = notes_on(rt, piece, format, messages)?;
+    write(rt, in_front(format, messages))?;
+    write(rt, notes.as_slice())
 }
 
 /// Writes what `snc` tells of a program, behind it a note on each message, and what lints remark, where no message is an error.
-pub fn answered_check(rt: &HostRuntime, piece: SourceJob, words: &CheckWords) -> Status {
-    let Ok(Answered { messages, made }) = answer(rt.alloc(), piece.job, piece.source, words) else {
-        return Status::Memory;
-    };
+pub fn answered_check(
+    rt: &HostRuntime,
+    piece: SourceJob,
+    words: &CheckWords,
+) -> Result<Status, Status> {
+    let Answered { messages, made } = answer(rt.alloc(), piece.job, piece.source, words)?;
     let messages = messages.as_slice();
     match made {
         Some(remarks) => told_remarks(rt, piece, words, messages, remarks.lines.as_slice()),
-        None => told_errors(rt, piece, words.format, messages),
+        None => {
+            tell_messages(rt, piece, words.format, messages)?;
+            Ok(Status::SourceErrors)
+        }
     }
 }

@@ -2,7 +2,7 @@
 
 use crate::asked::Asked;
 use crate::version::VERSION;
-use crate::wholes::whole_of;
+use crate::wholes::{check_written, whole_of};
 use snc::Status;
 use snl_coverage::Runner;
 use snl_tallies::{Head, ReadFault, Subject, is_counts, push_tallies, read_counts};
@@ -60,13 +60,9 @@ fn own_head(alloc: Global, asked: Asked) -> Result<Head, AllocError> {
 /// Adds the counts in a file, whose first line has to be this one, to those of a program that ran.
 fn add_file(rt: &HostRuntime, runner: &mut Runner, head: &Head, path: &str) -> Result<(), Status> {
     let text = whole_of(rt, path)?;
-    let Ok(tallies) = runner.coverage().tallies(rt.alloc()) else {
-        return Err(Status::Memory);
-    };
+    let tallies = runner.coverage().tallies(rt.alloc())?;
     match read_counts(rt.alloc(), head, tallies.as_slice(), text.as_slice()) {
-        Ok(counts) => runner
-            .add_counts(rt.alloc(), counts.as_slice())
-            .map_err(|_| Status::Memory),
+        Ok(counts) => Ok(runner.add_counts(rt.alloc(), counts.as_slice())?),
         Err(ReadFault::Memory) => Err(Status::Memory),
         Err(fault) => {
             let _ = eprintln!(rt; "snl: {path}: {fault}");
@@ -83,9 +79,7 @@ pub fn add_files(
     runner: &mut Runner,
     paths: &[String],
 ) -> Result<(), Status> {
-    let Ok(head) = own_head(rt.alloc(), asked) else {
-        return Err(Status::Memory);
-    };
+    let head = own_head(rt.alloc(), asked)?;
     for path in paths {
         add_file(rt, runner, &head, path.as_str())?;
     }
@@ -144,9 +138,7 @@ pub fn check_counts(rt: &HostRuntime, path: &Option<String>) -> Result<(), Statu
     let Some(path) = path else {
         return Ok(());
     };
-    let Ok(part) = part_of(rt, path.as_str()) else {
-        return Err(Status::Memory);
-    };
+    let part = part_of(rt, path.as_str())?;
     check_file(rt, path.as_str())?;
     check_file(rt, part.as_str())
 }
@@ -173,14 +165,7 @@ pub fn write_counts(
     let Some(path) = path else {
         return Ok(());
     };
-    let Ok(text) = text_of(rt, asked, runner) else {
-        return Err(Status::Memory);
-    };
-    match write_file(rt, path.as_str(), text.as_slice()) {
-        Ok(()) => Ok(()),
-        Err(fault) => {
-            let _ = eprintln!(rt; "snl: cannot write {path}: {fault}");
-            Err(Status::InputOutput)
-        }
-    }
+    let text = text_of(rt, asked, runner)?;
+    let written = write_file(rt, path.as_str(), text.as_slice());
+    check_written(rt, path.as_str(), written)
 }

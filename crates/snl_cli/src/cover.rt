@@ -44,41 +44,7 @@ impl Total {
         }
     }
 
-    /// Notes how a run over the trace of a name ended, and how its bad line can be mended.
-    fn note(
-        &mut self,
-        rt: &HostRuntime,
-        name: &str,
-        end: End,
-        mended: &[u8],
-    ) -> Result<(), Status> {
-        let status = status_of(end);
-        if rank(status) > rank(self.status) {
-            self.status = status;
-        }
-        match self.add_bad_line(rt, name, end, mended) {
-            Ok(()) => Ok(()),
-            Err(_) => Err(Status::Memory),
-        }
-    }
-
-    /// Adds the lines about a bad line.
-    fn add_bad_line(
-        &mut self,
-        rt: &HostRuntime,
-        name: &str,
-        end: End,
-        mended: &[u8],
-    ) -> Result<(), AllocError> {
-        if let End::TraceFault(number, fault) = end {
-            let line = format!(in rt.alloc(); "{name}:{number}: {fault}\n")?;
-            self.bad_lines.extend_from_slice(line.as_bytes())?;
-            self.bad_lines.extend_from_slice(mended)?;
-        }
-        Ok(())
-    }
-
-    /// Takes in how a run over the trace of a name ended.
+    /// Takes in how a run over the trace of a name ended, and how its bad line can be mended.
     fn take(
         &mut self,
         rt: &HostRuntime,
@@ -86,8 +52,17 @@ impl Total {
         end: End,
         heard: &Overheard,
     ) -> Result<(), Status> {
-        let mended = bad_line_text(rt, heard, end);
-        self.note(rt, name, end, mended.as_slice())
+        let status = status_of(end);
+        if rank(status) > rank(self.status) {
+            self.status = status;
+        }
+        if let End::TraceFault(number, fault) = end {
+            let line = format!(in rt.alloc(); "{name}:{number}: {fault}\n")?;
+            self.bad_lines.extend_from_slice(line.as_bytes())?;
+            let mended = bad_line_text(rt, heard, end);
+            self.bad_lines.extend_from_slice(mended.as_slice())?;
+        }
+        Ok(())
     }
 }
 
@@ -96,10 +71,7 @@ fn run_over<R: Source>(rt: &HostRuntime, runner: &mut Runner, trace: &mut R) -> 
     requires trace { R.failures trace.old < 2 ^ 64 - 1 }
     requires fresh { R.gave trace.old ≡ [] }
 {
-    match runner.over(rt.alloc(), trace, Nowhere::new()) {
-        Ok(run) => Ok(run.end),
-        Err(_) => Err(Status::Memory),
-    }
+    Ok(runner.over(rt.alloc(), trace, Nowhere::new())?.end)
 }
 
 /// Runs a program over the trace in a file.
@@ -177,38 +149,41 @@ fn add_all(
 }
 
 /// Writes what was missed; answers the status of that: whether less was taken than the call asks.
-fn write_answer(rt: &HostRuntime, coverage: &Coverage, fail_under: u32) -> Status {
-    let Ok(gaps) = gaps_of(rt.alloc(), coverage) else {
-        return Status::Memory;
-    };
-    let Ok(text) = coverage_text(rt.alloc(), coverage, &gaps) else {
-        return Status::Memory;
-    };
-    if write(rt, text.as_slice()).is_err() {
-        return Status::InputOutput;
+fn write_answer(
+    rt: &HostRuntime,
+    coverage: &Coverage,
+    fail_under: u32,
+) -> Result<Status, AllocError> {
+    let gaps = gaps_of(rt.alloc(), coverage)?;
+    let text = coverage_text(rt.alloc(), coverage, &gaps)?;
+    match write(rt, text.as_slice()) {
+        Err(status) => Ok(status),
+        Ok(()) if gaps.is_below(fail_under) => Ok(Status::SourceErrors),
+        Ok(()) => Ok(Status::Well),
     }
-    if gaps.is_below(fail_under) {
-        return Status::SourceErrors;
-    }
-    Status::Well
 }
 
 /// Writes the counts of a call where it asks for them, and then what was missed; answers the status of that. Where the counts cannot be
 /// written, the answer is.
-fn write_all(rt: &HostRuntime, asked: Asked, runner: &Runner, words: &CoverWords) -> Status {
+fn write_all(
+    rt: &HostRuntime,
+    asked: Asked,
+    runner: &Runner,
+    words: &CoverWords,
+) -> Result<Status, Status> {
     let counted = write_counts(rt, asked, runner, &words.counts);
     if let Err(Status::Memory) = counted {
-        return Status::Memory;
+        return Err(Status::Memory);
     }
-    let answered = write_answer(rt, runner.coverage(), words.fail_under);
+    let answered = write_answer(rt, runner.coverage(), words.fail_under)?;
     match counted {
-        Err(status) if answered != Status::Memory => status,
-        _ => answered,
+        Ok(()) => Ok(answered),
+        Err(status) => Ok(status),
     }
 }
 
 /// Tells what came of all traces, once an answer was written or not. The messages come behind it, and what is told of bad lines of
-/// traces comes last. Where memory ran out nothing is told.
+/// traces comes last.
 fn told(
     rt: &HostRuntime,
     asked: Asked,
@@ -216,9 +191,6 @@ fn told(
     answered: Status,
     total: &Total,
 ) -> Status {
-    if answered == Status::Memory {
-        return answered;
-    }
     asked.tell(rt, messages);
     tell(rt, total.bad_lines.as_slice());
     if total.status == Status::Well || answered == Status::InputOutput {
@@ -235,9 +207,7 @@ pub fn answered_cover(
     words: &CoverWords,
 ) -> Result<Status, Status> {
     let Asked { source, call, .. } = asked;
-    let Ok(Answered { messages, made }) = runner_of(rt.alloc(), source, &call.job) else {
-        return Err(Status::Memory);
-    };
+    let Answered { messages, made } = runner_of(rt.alloc(), source, &call.job)?;
     let messages = messages.as_slice();
     let Some(mut runner) = made else {
         asked.tell(rt, messages);
@@ -247,7 +217,7 @@ pub fn answered_cover(
     let total = run_over_all(rt, runner.as_mut(), words, call.progress)?;
     let answered = match total.status {
         Status::InputOutput => Status::Well,
-        _ => write_all(rt, asked, runner.as_ref(), words),
+        _ => write_all(rt, asked, runner.as_ref(), words)?,
     };
     Ok(told(rt, asked, messages, answered, &total))
 }

@@ -8,63 +8,29 @@ use snc::{Answered, Status, status_of};
 use snc_cli::write;
 use snl_args::GraphWords;
 use snl_coverage::{Runner, graph, runner_of};
-use snl_trace::End;
-use snl_views::Overheard;
 use snl_watch::Nowhere;
+use std::alloc::AllocError;
 
-/// Writes the picture of a program, which tells counts or does not; answers the status, which is that of the run, if there was one.
-fn written(rt: &HostRuntime, runner: &Runner, end: Option<End>, tells: bool) -> Status {
-    let status = match end {
-        None => Status::Well,
-        Some(end) => status_of(end),
-    };
-    if status == Status::InputOutput {
-        return status;
-    }
-    let Ok(drawing) = graph(rt.alloc(), runner.coverage(), tells) else {
-        return Status::Memory;
-    };
-    match write(rt, drawing.text.as_slice()) {
-        Ok(()) => status,
-        Err(_) => Status::InputOutput,
-    }
-}
-
-/// Writes what `graph` answers of a run, the messages behind the picture, unless memory ran out: then nothing was written. What is told
-/// of a bad line of the trace comes last.
-fn told_run(
+/// Writes the picture of a program whose run has a status; whether it tells counts. Answers the status; there is no picture where the
+/// trace could not be read.
+fn written(
     rt: &HostRuntime,
-    asked: Asked,
-    messages: &[u8],
     runner: &Runner,
-    run: (End, &Overheard),
-) -> Status {
-    let (end, heard) = run;
-    let status = told(rt, asked, messages, runner, Some(end), true);
-    if status != Status::Memory {
-        tell_bad_line(rt, heard, end);
-    }
-    status
-}
-
-/// Writes a picture, and the messages behind it, unless memory ran out: then nothing was written.
-fn told(
-    rt: &HostRuntime,
-    asked: Asked,
-    messages: &[u8],
-    runner: &Runner,
-    end: Option<End>,
+    status: Status,
     tells: bool,
-) -> Status {
-    let status = written(rt, runner, end, tells);
-    if status == Status::Memory {
-        return status;
+) -> Result<Status, AllocError> {
+    if status == Status::InputOutput {
+        return Ok(status);
     }
-    asked.tell(rt, messages);
-    status
+    let drawing = graph(rt.alloc(), runner.coverage(), tells)?;
+    match write(rt, drawing.text.as_slice()) {
+        Ok(()) => Ok(status),
+        Err(failed) => Ok(failed),
+    }
 }
 
-/// Runs the program of a call over the trace on standard input, and draws it.
+/// Runs the program of a call over the trace on standard input, and draws it. The messages come behind the picture, and what is told of a
+/// bad line of the trace comes last.
 fn run_and_drawn(
     rt: &HostRuntime,
     asked: Asked,
@@ -72,10 +38,11 @@ fn run_and_drawn(
     runner: &mut Runner,
 ) -> Result<Status, Status> {
     let mut trace = Input::new(rt, asked.call.progress, None)?;
-    match runner.over(rt.alloc(), &mut trace, Nowhere::new()) {
-        Ok(run) => Ok(told_run(rt, asked, messages, runner, (run.end, trace.heard()))),
-        Err(_) => Err(Status::Memory),
-    }
+    let end = runner.over(rt.alloc(), &mut trace, Nowhere::new())?.end;
+    let status = written(rt, runner, status_of(end), true)?;
+    asked.tell(rt, messages);
+    tell_bad_line(rt, trace.heard(), end);
+    Ok(status)
 }
 
 /// `snl graph`.
@@ -85,9 +52,7 @@ pub fn answered_graph(
     words: &GraphWords,
 ) -> Result<Status, Status> {
     let Asked { source, call, .. } = asked;
-    let Ok(Answered { messages, made }) = runner_of(rt.alloc(), source, &call.job) else {
-        return Err(Status::Memory);
-    };
+    let Answered { messages, made } = runner_of(rt.alloc(), source, &call.job)?;
     let messages = messages.as_slice();
     let Some(mut runner) = made else {
         asked.tell(rt, messages);
@@ -97,7 +62,9 @@ pub fn answered_graph(
     add_files(rt, asked, runner, words.counts.as_slice())?;
     let has_counts = !words.counts.is_empty();
     if words.no_trace || has_counts {
-        return Ok(told(rt, asked, messages, runner, None, has_counts));
+        let status = written(rt, runner, Status::Well, has_counts)?;
+        asked.tell(rt, messages);
+        return Ok(status);
     }
     run_and_drawn(rt, asked, messages, runner)
 }

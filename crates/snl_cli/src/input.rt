@@ -2,7 +2,7 @@
 
 ghost use Rattle.std.specs.Prelude.{◌≡◌, [], IfOk};
 
-use crate::trace_report::{compared, overheard};
+use crate::trace_report::compared;
 use snc::Status;
 use snc_cli::Stream;
 use snl_trace::{Source, SourceFault};
@@ -45,7 +45,7 @@ impl<'c> Input<'c> {
         Ok(Input {
             rt,
             stream: Stream::new(rt.stdin()),
-            heard: overheard(rt)?,
+            heard: Overheard::new(rt.alloc())?,
             units: compared(rt, units)?,
             is_begun: false,
             progress: if tells { begun(rt) } else { None },

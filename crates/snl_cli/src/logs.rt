@@ -2,6 +2,7 @@
 //! once, so that the times of all its channels come in order.
 
 use snc::Status;
+use snc_cli::{opened, told_unread};
 use snl_args::{NamedNumber, TraceWords};
 use snl_import::Feed;
 use snl_logs::Log;
@@ -65,12 +66,6 @@ pub struct ExportLog {
     text: Vec<u8>,
     /// Where its parts begin: the byte, and how many lines stand in front.
     parts: Vec<(usize, u64)>,
-}
-
-/// Tells that a log cannot be read.
-pub fn told_unread(rt: &HostRuntime, file: &str) -> Status {
-    let _ = eprintln!(rt; "snl: cannot read {file}");
-    Status::InputOutput
 }
 
 /// Whether a log is a plain file, which can be read twice.
@@ -178,9 +173,9 @@ pub fn held_logs(rt: &HostRuntime, words: &TraceWords) -> Result<Vec<Option<Expo
             Ok(None)
         };
         match held {
-            Ok(held) => all.push(held).map_err(|_| Status::Memory)?,
+            Ok(held) => all.push(held)?,
             Err(fault) if fault.kind() == ErrorKind::OutOfMemory => return Err(Status::Memory),
-            Err(_) => return Err(told_unread(rt, file.as_str())),
+            Err(_) => return Err(told_unread(rt, "snl", file.as_str())),
         }
     }
     Ok(all)
@@ -197,15 +192,11 @@ fn shift_of(offsets: &[NamedNumber], file: &str) -> i64 {
 }
 
 /// The log of a name. Where it cannot be opened, the user is told.
-fn opened<'t>(rt: &HostRuntime, file: &str) -> Result<LogFile<'t>, Status> {
+fn log_at<'t>(rt: &HostRuntime, file: &str) -> Result<LogFile<'t>, Status> {
     if file == "-" {
         return Ok(LogFile::Input(rt.stdin()));
     }
-    match File::open(rt, file) {
-        Ok(file) => Ok(LogFile::File(file)),
-        Err(fault) if fault.kind() == ErrorKind::OutOfMemory => Err(Status::Memory),
-        Err(_) => Err(told_unread(rt, file)),
-    }
+    Ok(LogFile::File(opened(rt, "snl", file)?))
 }
 
 /// A log on its way, in front of which so many lines of its file stand.
@@ -221,10 +212,7 @@ fn feed_of<'t>(
     let Ok(input) = BufReader::with_capacity(alloc, size, log) else {
         return Err(Status::Memory);
     };
-    match Feed::new(alloc, input, file.as_bytes(), shift) {
-        Ok(feed) => Ok(feed.from_line(before)),
-        Err(_) => Err(Status::Memory),
-    }
+    Ok(Feed::new(alloc, input, file.as_bytes(), shift)?.from_line(before))
 }
 
 /// Adds the parts of a file that is held.
@@ -244,7 +232,7 @@ fn push_parts<'t>(
         let bytes = held.text.get(start..end).unwrap_or(b"");
         let log = LogFile::Part(Rest { bytes });
         let feed = feed_of(alloc, words, file, log, PART_HELD, before)?;
-        feeds.push(feed).map_err(|_| Status::Memory)?;
+        feeds.push(feed)?;
     }
     Ok(())
 }
@@ -256,9 +244,9 @@ fn push_log<'t>(
     file: &str,
     feeds: &mut Vec<LogFeed<'t>>,
 ) -> Result<(), Status> {
-    let log = opened(rt, file)?;
+    let log = log_at(rt, file)?;
     let feed = feed_of(rt.alloc(), words, file, log, INPUT_HELD, 0)?;
-    feeds.push(feed).map_err(|_| Status::Memory)
+    Ok(feeds.push(feed)?)
 }
 
 /// All logs of a call on their way.

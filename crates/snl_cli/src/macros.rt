@@ -15,13 +15,9 @@ fn is_misplaced(rt: &HostRuntime, macros: &str) -> bool {
 pub fn check_macros(rt: &HostRuntime, call: &Call) -> Result<(), Status> {
     match &call.job.macros {
         Some(macros) if !macros.is_empty() && is_misplaced(rt, macros.as_str()) => {
-            match misplaced_text(rt.alloc(), call, macros.as_str()) {
-                Ok(text) => {
-                    tell(rt, text.as_bytes());
-                    Err(Status::Usage)
-                }
-                Err(_) => Err(Status::Memory),
-            }
+            let text = misplaced_text(rt.alloc(), call, macros.as_str())?;
+            tell(rt, text.as_bytes());
+            Err(Status::Usage)
         }
         _ => Ok(()),
     }
@@ -32,5 +28,5 @@ pub fn notes_of(rt: &HostRuntime, source: &[u8], call: &Call) -> Result<Vec<u8>,
     let Some(macros) = &call.job.macros else {
         return Ok(Vec::new(rt.alloc()));
     };
-    macro_notes(rt.alloc(), source, macros.as_str()).map_err(|_| Status::Memory)
+    Ok(macro_notes(rt.alloc(), source, macros.as_str())?)
 }

@@ -1,5 +1,6 @@
 //! The files that a search writes. None of them takes the place of a file that somebody else made, or of one that the call reads.
 
+use crate::wholes::check_written;
 use snc::Status;
 use snl_args::{Call, SearchWords};
 use std::alloc::{AllocError, Global};
@@ -120,9 +121,7 @@ fn check_inner(
     folder: &str,
     name: &str,
 ) -> Result<(), Status> {
-    let Ok(path) = path_in(rt.alloc(), folder, name) else {
-        return Err(Status::Memory);
-    };
+    let path = path_in(rt.alloc(), folder, name)?;
     let guard = match guard_of(rt, call, words, path.as_str()) {
         None if !is_numbered(name) => Some(Guard::Foreign),
         guard => guard,
@@ -215,35 +214,32 @@ fn write_folder(rt: &HostRuntime, folder: &str, suite: &[Vec<u8>]) -> io::Result
     Ok(())
 }
 
-/// Whether a file could be written; where it could not, the user is told.
-fn told_written(rt: &HostRuntime, name: &str, written: io::Result<()>) -> bool {
-    match written {
-        Ok(()) => true,
-        Err(error) => {
-            let _ = eprintln!(rt; "snl: cannot write {name}: {error}");
-            false
-        }
-    }
-}
-
-/// Writes a trace into the file of `--out`, where one is named. Answers whether all was written.
-pub fn write_trace(rt: &HostRuntime, name: &Option<String>, trace: &Option<Vec<u8>>) -> bool {
+/// Writes a trace into the file of `--out`, where one is named. Where that fails, the user is told.
+pub fn write_trace(
+    rt: &HostRuntime,
+    name: &Option<String>,
+    trace: &Option<Vec<u8>>,
+) -> Result<(), Status> {
     match (name, trace) {
         (Some(name), Some(trace)) => {
             let written = write_file(rt, name.as_str(), trace.as_slice());
-            told_written(rt, name.as_str(), written)
+            check_written(rt, name.as_str(), written)
         }
-        _ => true,
+        _ => Ok(()),
     }
 }
 
-/// Writes traces into the folder of `--cover`, where one is named. Answers whether all was written.
-pub fn write_suite(rt: &HostRuntime, folder: &Option<String>, suite: &[Vec<u8>]) -> bool {
+/// Writes traces into the folder of `--cover`, where one is named. Where that fails, the user is told.
+pub fn write_suite(
+    rt: &HostRuntime,
+    folder: &Option<String>,
+    suite: &[Vec<u8>],
+) -> Result<(), Status> {
     match folder {
         Some(folder) => {
             let written = write_folder(rt, folder.as_str(), suite);
-            told_written(rt, folder.as_str(), written)
+            check_written(rt, folder.as_str(), written)
         }
-        None => true,
+        None => Ok(()),
     }
 }

@@ -3,7 +3,7 @@
 use crate::asked::Asked;
 use crate::input::Input;
 use crate::run_watch::answered_watch;
-use crate::trace_report::{clock_text, status_with, tell_bad_line, units_text};
+use crate::trace_report::{status_with, tell_bad_line, units_text};
 use snc::{SinkFault, Status};
 use snc_cli::{Lines, Outlet, write};
 use snl_args::RunWords;
@@ -21,7 +21,7 @@ fn ended(
 ) -> Result<bool, Status> {
     match end {
         Some(end) if is_whole => {
-            let clock = clock_text(rt, trace.heard(), end, b"# ")?;
+            let clock = trace.heard().clock_text(rt.alloc(), end, b"# ")?;
             let units = units_text(rt, trace.units(), b"# ")?;
             Ok(write(rt, clock.as_slice()).is_ok() && write(rt, units.as_slice()).is_ok())
         }
@@ -75,25 +75,16 @@ fn answered_plain<'c>(
         ..
     } = asked;
     let subject = Subject { source, units };
-    let Ok(lines) = Lines::new(rt.alloc(), Outlet::new(rt.stdout())) else {
-        return Err(Status::Memory);
-    };
+    let lines = Lines::new(rt.alloc(), Outlet::new(rt.stdout()))?;
     let trace = Input::new(rt, call.progress, asked.compared())?;
     if is_whole {
-        match run_whole(rt.alloc(), subject, &call.job, trace, lines) {
-            Ok(mut answer) => {
-                let finished = answer.sink.finish();
-                told_run(rt, asked, &answer, finished)
-            }
-            Err(_) => Err(Status::Memory),
-        }
+        let mut answer = run_whole(rt.alloc(), subject, &call.job, trace, lines)?;
+        let finished = answer.sink.finish();
+        told_run(rt, asked, &answer, finished)
     } else {
-        match run_folded(rt.alloc(), subject, &call.job, trace, lines, Nowhere::new()) {
-            Ok(mut answer) => {
-                let finished = answer.sink.0.finish();
-                told_run(rt, asked, &answer, finished)
-            }
-            Err(_) => Err(Status::Memory),
-        }
+        let nowhere = Nowhere::new();
+        let mut answer = run_folded(rt.alloc(), subject, &call.job, trace, lines, nowhere)?;
+        let finished = answer.sink.0.finish();
+        told_run(rt, asked, &answer, finished)
     }
 }

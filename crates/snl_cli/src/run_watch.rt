@@ -5,7 +5,7 @@ ghost use Rattle.std.specs.Prelude.{◌≡◌, []};
 use crate::asked::Asked;
 use crate::input::Input;
 use crate::same::notes_of;
-use crate::trace_report::{clock_text, status_with, tell_bad_line, units_text};
+use crate::trace_report::{status_with, tell_bad_line, units_text};
 use snc::{Answered, Status};
 use snc_args::Job;
 use snc_cli::{Lines, Outlet, source_in, tell, write};
@@ -76,17 +76,14 @@ pub fn places_of(
 ) -> Result<Vec<ForbiddenState>, Status> {
     let mut places = Vec::new(rt.alloc());
     for name in never {
-        let place = place_of(watch, name.as_str());
-        let Some(place) = place else {
+        let Some(place) = place_of(watch, name.as_str()) else {
             let file = job.file.as_str();
             let _ = eprintln!(rt;
                 "error: '--never {name}' names no state of {file}: it is SS.STATE, a state set and one of its states"
             );
             return Err(Status::Usage);
         };
-        if places.push(place).is_err() {
-            return Err(Status::Memory);
-        }
+        places.push(place)?;
     }
     Ok(places)
 }
@@ -107,7 +104,7 @@ fn told(
     if observed.sink.finish().is_err() {
         return Ok(Status::InputOutput);
     }
-    let clock = clock_text(rt, trace.heard(), end, b"# ")?;
+    let clock = trace.heard().clock_text(rt.alloc(), end, b"# ")?;
     let units = units_text(rt, trace.units(), b"# ")?;
     for text in [&observed.summary, &clock, &units] {
         if write(rt, text.as_slice()).is_err() {
@@ -125,18 +122,12 @@ fn observed<'c>(
     watch: &mut Program,
     places: Vec<ForbiddenState>,
 ) -> Result<Status, Status> {
-    let Ok(lines) = Lines::new(rt.alloc(), Outlet::new(rt.stdout())) else {
-        return Err(Status::Memory);
-    };
+    let lines = Lines::new(rt.alloc(), Outlet::new(rt.stdout()))?;
     let mut trace = Input::new(rt, asked.call.progress, asked.compared())?;
-    match observe(rt.alloc(), run, watch, places, &mut trace, lines) {
-        Ok(mut observed) => {
-            let status = told(rt, &trace, &mut observed)?;
-            tell_bad_line(rt, trace.heard(), observed.end());
-            Ok(status)
-        }
-        Err(_) => Err(Status::Memory),
-    }
+    let mut observed = observe(rt.alloc(), run, watch, places, &mut trace, lines)?;
+    let status = told(rt, &trace, &mut observed)?;
+    tell_bad_line(rt, trace.heard(), observed.end());
+    Ok(status)
 }
 
 /// The same of two sources, where neither has an error.
@@ -167,8 +158,6 @@ pub fn answered_watch<'c>(
     never: &[String],
 ) -> Result<Status, Status> {
     let watch = source_in(rt, "snl", job.file.as_str())?;
-    match watch_pair_of(rt, asked, job, watch.as_slice()) {
-        Ok(both) => watched(rt, asked, job, never, both),
-        Err(_) => Err(Status::Memory),
-    }
+    let both = watch_pair_of(rt, asked, job, watch.as_slice())?;
+    watched(rt, asked, job, never, both)
 }

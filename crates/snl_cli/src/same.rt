@@ -3,7 +3,7 @@
 ghost use Rattle.std.specs.Prelude.{◌≡◌, []};
 
 use crate::input::Input;
-use crate::trace_report::{clock_text, tell_bad_line};
+use crate::trace_report::tell_bad_line;
 use snc::{Answered, Status};
 use snc_cli::{source_in, tell, write};
 use snl_args::{Call, SameWords};
@@ -35,7 +35,7 @@ fn compared(
     old: &mut Side,
     new: &mut Side,
     trace: &mut Input<'_>,
-) -> Result<Compared, Status>
+) -> Result<Compared, AllocError>
     requires failures { trace.old.stream.failures ≡ 0 }
     requires fresh { trace.old.stream.input.past.bytes ≡ [] }
 {
@@ -43,10 +43,7 @@ fn compared(
         puts_only: words.puts_only,
         but: words.but.as_slice(),
     };
-    match compare(rt.alloc(), old, new, filter, words.is_whole, trace) {
-        Ok(compared) => Ok(compared),
-        Err(_) => Err(Status::Memory),
-    }
+    compare(rt.alloc(), old, new, filter, words.is_whole, trace)
 }
 
 /// Writes what was found, unless the trace could not be read. Answers the status, or that memory ran out.
@@ -55,7 +52,7 @@ fn told(rt: &HostRuntime, compared: &Compared, heard: &Overheard) -> Result<Stat
     if end == End::SourceFailed {
         return Ok(Status::InputOutput);
     }
-    let clock = clock_text(rt, heard, end, b"")?;
+    let clock = heard.clock_text(rt.alloc(), end, b"")?;
     if write(rt, compared.text.as_slice()).is_err() || write(rt, clock.as_slice()).is_err() {
         return Ok(Status::InputOutput);
     }
@@ -117,8 +114,6 @@ fn answered_by(
 pub fn answered_same(rt: &HostRuntime, call: &Call, words: &SameWords) -> Result<Status, Status> {
     let old = source_in(rt, "snl", call.job.file.as_str())?;
     let new = source_in(rt, "snl", words.new.file.as_str())?;
-    match both_of(rt, call, words, old.as_slice(), new.as_slice()) {
-        Ok(mut both) => answered_by(rt, call, words, &mut both),
-        Err(_) => Err(Status::Memory),
-    }
+    let mut both = both_of(rt, call, words, old.as_slice(), new.as_slice())?;
+    answered_by(rt, call, words, &mut both)
 }

@@ -43,14 +43,7 @@ pub fn answered_sets(rt: &HostRuntime, asked: Asked, declares: bool) -> Result<S
         OutlineForm::Numbers
     };
     let outlines = Outlines { form };
-    let Ok(Answered { messages, made }) = answer(
-        rt.alloc(),
-        &asked.call.job,
-        asked.source,
-        &outlines,
-    ) else {
-        return Err(Status::Memory);
-    };
+    let Answered { messages, made } = answer(rt.alloc(), &asked.call.job, asked.source, &outlines)?;
     let status = match made {
         Some(text) => told_outline(rt, text.as_slice()),
         None => Status::SourceErrors,

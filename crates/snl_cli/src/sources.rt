@@ -56,19 +56,20 @@ fn checked_source(
     call: &Call,
     words: &CheckWords,
     file: &str,
-    source: &[u8],
-) -> Status {
-    match job_of_file(rt.alloc(), &call.job, file) {
-        Ok(job) => answered_check(rt, SourceJob { source, job: &job }, words),
-        Err(_) => Status::Memory,
-    }
+) -> Result<Status, Status> {
+    let source = source_in(rt, "snl", file)?;
+    let job = job_of_file(rt.alloc(), &call.job, file)?;
+    let piece = SourceJob {
+        source: source.as_slice(),
+        job: &job,
+    };
+    answered_check(rt, piece, words)
 }
 
 /// Checks a file.
 fn checked_file(rt: &HostRuntime, call: &Call, words: &CheckWords, file: &str) -> Status {
-    match source_in(rt, "snl", file) {
-        Ok(source) => checked_source(rt, call, words, file, source.as_slice()),
-        Err(status) => status,
+    match checked_source(rt, call, words, file) {
+        Ok(status) | Err(status) => status,
     }
 }
 

@@ -56,8 +56,8 @@ fn told_names(rt: &HostRuntime, folder: &str) -> Result<Vec<String>, Status> {
 /// What is tested in a folder.
 fn folder_at(rt: &HostRuntime, folder: &str) -> Result<Folder, Status> {
     let names = told_names(rt, folder)?;
-    let suite = suite_of(rt.alloc(), names.as_slice()).map_err(|_| Status::Memory)?;
-    let front = front_of(rt.alloc(), folder).map_err(|_| Status::Memory)?;
+    let suite = suite_of(rt.alloc(), names.as_slice())?;
+    let front = front_of(rt.alloc(), folder)?;
     Ok(Folder { front, suite })
 }
 
@@ -86,7 +86,7 @@ fn program_at(rt: &HostRuntime, path: &str) -> Result<Option<Folder>, Status> {
         return Ok(None);
     };
     let Folder { front, suite } = folder_at(rt, folder)?;
-    let suite = only(rt.alloc(), suite, name).map_err(|_| Status::Memory)?;
+    let suite = only(rt.alloc(), suite, name)?;
     Ok(Some(Folder { front, suite }))
 }
 
@@ -123,9 +123,7 @@ pub fn folders_of(rt: &HostRuntime, words: &TestWords) -> Result<Vec<Folder>, St
     let mut folders = Vec::new(rt.alloc());
     for path in &words.paths {
         let folder = folder_of(rt, path.as_str())?;
-        if folders.push(folder).is_err() {
-            return Err(Status::Memory);
-        }
+        folders.push(folder)?;
     }
     Ok(folders)
 }

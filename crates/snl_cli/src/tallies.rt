@@ -2,6 +2,7 @@
 
 use crate::suites::Folder;
 use crate::verdicts::Verdict;
+use crate::wholes::check_written;
 use snc::Status;
 use snc_cli::write;
 use snl_suite::Report;
@@ -18,11 +19,6 @@ pub struct Tally {
     /// Whether a file could not be read or written.
     is_stuck: bool,
     report: Report,
-}
-
-/// Writes a text to standard output.
-pub fn told(rt: &HostRuntime, text: &[u8]) -> Result<(), Status> {
-    write(rt, text).map_err(|_| Status::InputOutput)
 }
 
 /// How many microseconds have passed since a time; 0 where there is no clock.
@@ -109,10 +105,8 @@ impl Tally {
         verdict: &Verdict,
         begun: Option<Instant>,
     ) -> Result<(), Status> {
-        let Ok(text) = text_of(rt, folder, stem, verdict) else {
-            return Err(Status::Memory);
-        };
-        told(rt, text.as_slice())?;
+        let text = text_of(rt, folder, stem, verdict)?;
+        write(rt, text.as_slice())?;
         self.count(verdict);
         let failure = match verdict {
             Verdict::Wrong(text) | Verdict::Stuck(text) => Some(reason_of(text.as_slice())),
@@ -120,37 +114,24 @@ impl Tally {
         };
         let front = folder.front.as_str();
         let micros = micros_since(rt, begun);
-        self.report
-            .add(rt.alloc(), front, stem, micros, failure)
-            .map_err(|_| Status::Memory)
+        Ok(self.report.add(rt.alloc(), front, stem, micros, failure)?)
     }
 
     /// Tells how many tests are right, how many were written, if any, and how many failed.
     pub fn tell_sum(&self, rt: &HostRuntime) -> Result<(), Status> {
         let (right, wrong, written) = (self.right, self.wrong, self.written);
         let text = if written == 0 {
-            format!(in rt.alloc(); "{right} passed, {wrong} failed\n")
+            format!(in rt.alloc(); "{right} passed, {wrong} failed\n")?
         } else {
-            format!(in rt.alloc(); "{right} passed, {written} written, {wrong} failed\n")
+            format!(in rt.alloc(); "{right} passed, {written} written, {wrong} failed\n")?
         };
-        match text {
-            Ok(text) => told(rt, text.as_bytes()),
-            Err(_) => Err(Status::Memory),
-        }
+        write(rt, text.as_bytes())
     }
 
     /// Writes the report into a file. Where that fails, the user is told.
     pub fn write_report(&self, rt: &HostRuntime, path: &str) -> Result<(), Status> {
-        let Ok(text) = self.report.text(rt.alloc()) else {
-            return Err(Status::Memory);
-        };
-        match fs::write(rt, path, text.as_slice()) {
-            Ok(()) => Ok(()),
-            Err(fault) => {
-                let _ = eprintln!(rt; "snl: cannot write {path}: {fault}");
-                Err(Status::InputOutput)
-            }
-        }
+        let text = self.report.text(rt.alloc())?;
+        check_written(rt, path, fs::write(rt, path, text.as_slice()))
     }
 
     /// The status of all.

@@ -90,15 +90,10 @@ pub fn traced_program(rt: &HostRuntime, call: &Call) -> Result<Traced, Status> {
     let job = &call.job;
     let source = source_in(rt, "snl", job.file.as_str())?;
     let mut notes = notes_of(rt, source.as_slice(), call)?;
-    let Ok(Answered { messages, made }) = answer(rt.alloc(), job, source.as_slice(), &Loading)
-    else {
-        return Err(Status::Memory);
-    };
-    if notes.extend_from_slice(messages.as_slice()).is_err() {
-        return Err(Status::Memory);
-    }
+    let Answered { messages, made } = answer(rt.alloc(), job, source.as_slice(), &Loading)?;
+    notes.extend_from_slice(messages.as_slice())?;
     match made {
-        Some(machine) => traced_of(rt.alloc(), machine, job, notes).map_err(|_| Status::Memory),
+        Some(machine) => Ok(traced_of(rt.alloc(), machine, job, notes)?),
         None => {
             tell(rt, notes.as_slice());
             Err(Status::SourceErrors)

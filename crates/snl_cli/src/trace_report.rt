@@ -1,4 +1,4 @@
-//! What is told of a trace that was overheard: its clock, its units, and how its bad line can be mended.
+//! What is told of a trace that was overheard: its units, and how its bad line can be mended.
 
 use snc::Status;
 use snc_cli::tell;
@@ -6,21 +6,13 @@ use snl_trace::End;
 use snl_units::{ChannelUnits, Comparison};
 use snl_views::Overheard;
 
-/// Who overhears a trace of which nothing came yet. Fails only where memory ran out.
-pub fn overheard(rt: &HostRuntime) -> Result<Overheard, Status> {
-    Overheard::new(rt.alloc()).map_err(|_| Status::Memory)
-}
-
 /// Who compares the units of a trace of which nothing came yet with others, where there are some. Fails only where memory ran out.
 pub fn compared<'u>(
     rt: &HostRuntime,
     units: Option<&'u [ChannelUnits]>,
 ) -> Result<Option<Comparison<'u>>, Status> {
     match units {
-        Some(units) => match Comparison::new(rt.alloc(), units) {
-            Ok(compared) => Ok(Some(compared)),
-            Err(_) => Err(Status::Memory),
-        },
+        Some(units) => Ok(Some(Comparison::new(rt.alloc(), units)?)),
         None => Ok(None),
     }
 }
@@ -46,18 +38,6 @@ pub fn status_with(units: Option<&Comparison<'_>>, status: Status) -> Status {
         Some(units) if status == Status::Well && units.differs() => Status::SourceErrors,
         _ => status,
     }
-}
-
-/// What looks wrong with the times of a trace whose run ended so, as lines with something in front.
-pub fn clock_text(
-    rt: &HostRuntime,
-    heard: &Overheard,
-    end: End,
-    front: &[u8],
-) -> Result<Vec<u8>, Status> {
-    heard
-        .clock_text(rt.alloc(), end, front)
-        .map_err(|_| Status::Memory)
 }
 
 /// How the bad line of a trace can be mended whose run ended so, as a line for the user; nothing where that is not known.

@@ -2,9 +2,8 @@
 
 ghost use Rattle.std.specs.Prelude.{◌≡◌, [], IfOk};
 
-use crate::trace_report::overheard;
 use snc::Status;
-use snc_cli::Stream;
+use snc_cli::{Stream, told_unread};
 use snl_trace::{Source, SourceFault};
 use snl_views::Overheard;
 use std::fs::File;
@@ -23,16 +22,13 @@ impl TraceFile {
         ensures gave { IfOk result (λ trace. trace.stream.input.past.bytes ≡ []) }
         ensures failures { IfOk result (λ trace. trace.stream.failures ≡ 0) }
     {
-        let heard = overheard(rt)?;
+        let heard = Overheard::new(rt.alloc())?;
         match File::open(rt, path) {
             Ok(file) => Ok(TraceFile {
                 stream: Stream::new(file),
                 heard,
             }),
-            Err(_) => {
-                let _ = eprintln!(rt; "snl: cannot read {path}");
-                Err(Status::InputOutput)
-            }
+            Err(_) => Err(told_unread(rt, "snl", path)),
         }
     }
 

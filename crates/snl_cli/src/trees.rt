@@ -35,10 +35,7 @@ fn told_tree(rt: &HostRuntime, text: &str) -> Status {
 
 /// `snl tree`: writes the tree of a program, where no message about it is an error. The messages come behind it.
 pub fn answered_tree(rt: &HostRuntime, asked: Asked) -> Result<Status, Status> {
-    let Ok(Answered { messages, made }) = answer(rt.alloc(), &asked.call.job, asked.source, &Trees)
-    else {
-        return Err(Status::Memory);
-    };
+    let Answered { messages, made } = answer(rt.alloc(), &asked.call.job, asked.source, &Trees)?;
     let status = match made {
         Some(text) => told_tree(rt, text.as_str()),
         None => Status::SourceErrors,

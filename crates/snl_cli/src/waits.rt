@@ -2,7 +2,7 @@
 
 use crate::asked::Asked;
 use crate::input::Input;
-use crate::trace_report::{clock_text, status_with, tell_bad_line, units_text};
+use crate::trace_report::{status_with, tell_bad_line, units_text};
 use snc::Status;
 use snc_cli::write;
 use snl_trace::End;
@@ -13,7 +13,7 @@ fn written(rt: &HostRuntime, outcome: &WaitsOutcome, trace: &Input<'_>) -> Resul
     if outcome.end == End::SourceFailed {
         return Ok(true);
     }
-    let clock = clock_text(rt, trace.heard(), outcome.end, b"")?;
+    let clock = trace.heard().clock_text(rt.alloc(), outcome.end, b"")?;
     let units = units_text(rt, trace.units(), b"")?;
     let is_written = write(rt, outcome.text.as_slice()).is_ok()
         && write(rt, clock.as_slice()).is_ok()
@@ -46,8 +46,6 @@ fn told_waits(
 pub fn answered_waits(rt: &HostRuntime, asked: Asked) -> Result<Status, Status> {
     let Asked { source, call, .. } = asked;
     let trace = Input::new(rt, call.progress, asked.compared())?;
-    match waits(rt.alloc(), source, &call.job, trace) {
-        Ok(answer) => told_waits(rt, asked, &answer),
-        Err(_) => Err(Status::Memory),
-    }
+    let answer = waits(rt.alloc(), source, &call.job, trace)?;
+    told_waits(rt, asked, &answer)
 }

@@ -1,6 +1,7 @@
-//! Files that are read as a whole: those of counts, and lists of paths.
+//! Files that are read or written as a whole, among them lists of paths.
 
 use snc::Status;
+use snc_cli::told_unread;
 use std::alloc::{AllocError, Global};
 use std::fs::File;
 use std::io;
@@ -34,11 +35,17 @@ pub fn whole_of(rt: &HostRuntime, path: &str) -> Result<Vec<u8>, Status> {
         }
         Ok(bytes) => Ok(bytes),
         Err(fault) if fault.kind() == ErrorKind::OutOfMemory => Err(Status::Memory),
-        Err(_) => {
-            let _ = eprintln!(rt; "snl: cannot read {path}");
-            Err(Status::InputOutput)
-        }
+        Err(_) => Err(told_unread(rt, "snl", path)),
     }
+}
+
+/// Sees that a file was written. Where it was not, the user is told.
+pub fn check_written(rt: &HostRuntime, path: &str, written: io::Result<()>) -> Result<(), Status> {
+    if let Err(fault) = written {
+        let _ = eprintln!(rt; "snl: cannot write {path}: {fault}");
+        return Err(Status::InputOutput);
+    }
+    Ok(())
 }
 
 /// The lines of a text that are not empty.
@@ -59,9 +66,7 @@ fn listed(rt: &HostRuntime, list: &str) -> Result<Vec<String>, Status> {
         let _ = eprintln!(rt; "snl: {list} is no list of paths: it is no UTF-8 text");
         return Err(Status::InputOutput);
     };
-    let Ok(lines) = lines_of(rt.alloc(), text) else {
-        return Err(Status::Memory);
-    };
+    let lines = lines_of(rt.alloc(), text)?;
     if lines.is_empty() {
         let _ = eprintln!(rt; "snl: note: {list} names no file");
     }

@@ -4,7 +4,7 @@ use snc::Status;
 use snc_cli::{source_in, write};
 use snl_alphabet::{Limits, Watches, WishedValues};
 use snl_args::{Call, SameWords, SearchWords};
-use snl_cli::{Both, both_of, tell_messages, write_trace};
+use snl_cli::{Both, both_of, code_of, tell_messages, write_trace};
 use snl_equivalence::{
     PairAnswer, PairFault, PairWishes, Prepared, Question, Sides, prepared_in, search_pair,
 };
@@ -94,16 +94,15 @@ pub fn wishes_of(
 /// What is wished of a search of two programs.
 fn all_wishes(rt: &HostRuntime, asked: Asked) -> Result<PairWishes, Status> {
     let wished = wished_in(rt, asked)?;
-    wishes_of(rt.alloc(), asked.search, wished).map_err(|_| Status::Memory)
+    Ok(wishes_of(rt.alloc(), asked.search, wished)?)
 }
 
 /// Says what a search answers.
-fn told_answer(rt: &HostRuntime, words: &SearchWords, answer: &PairAnswer) -> u8 {
+fn told_answer(rt: &HostRuntime, words: &SearchWords, answer: &PairAnswer) -> Result<u8, Status> {
     let written = write(rt, answer.text.as_slice());
-    if !write_trace(rt, &words.wanted.out, &answer.trace) || written.is_err() {
-        return Status::InputOutput.code();
-    }
-    answer.verdict.code()
+    write_trace(rt, &words.wanted.out, &answer.trace)?;
+    written?;
+    Ok(answer.verdict.code())
 }
 
 /// Says what is wrong with a wish.
@@ -143,7 +142,7 @@ fn searched<W: Watches>(
     pair: Pair,
     sides: &mut Sides,
     limits: &mut Limits<W>,
-) -> u8 {
+) -> Result<u8, Status> {
     let question = Question {
         filter: Filter {
             puts_only: asked.words.puts_only,
@@ -157,7 +156,7 @@ fn searched<W: Watches>(
     let new = Box::into_inner(new);
     match search_pair(rt.alloc(), old, new, &question, sides, limits) {
         Ok(answer) => told_answer(rt, asked.search, &answer),
-        Err(fault) => told_wrong(rt, asked.search, &fault),
+        Err(fault) => Ok(told_wrong(rt, asked.search, &fault)),
     }
 }
 
@@ -167,15 +166,12 @@ fn searched_in(
     asked: Asked,
     texts: Texts,
     sides: &mut Sides,
-) -> Result<u8, AllocError> {
-    let wishes = match all_wishes(rt, asked) {
-        Ok(wishes) => wishes,
-        Err(status) => return Ok(status.code()),
-    };
+) -> Result<u8, Status> {
+    let wishes = all_wishes(rt, asked)?;
     let clock = Clock::new(rt, asked.begun, asked.search.limits.seconds);
     let mut limits = Limits::new(rt.alloc(), clock, wishes.bounds.memory);
     match pair_in(rt, asked, texts)? {
-        Some(pair) => Ok(searched(rt, asked, &wishes, pair, sides, &mut limits)),
+        Some(pair) => searched(rt, asked, &wishes, pair, sides, &mut limits),
         None => Ok(Status::SourceErrors.code()),
     }
 }
@@ -190,22 +186,11 @@ fn answered_by(rt: &HostRuntime, asked: Asked, texts: Texts, both: &mut Both) ->
         old: old.as_mut(),
         new: new.as_mut(),
     };
-    match searched_in(rt, asked, texts, &mut sides) {
-        Ok(code) => {
-            if code != Status::Memory.code() {
-                tell_messages(rt, both);
-            }
-            code
-        }
-        Err(_) => Status::Memory.code(),
+    let code = code_of(searched_in(rt, asked, texts, &mut sides));
+    if code != Status::Memory.code() {
+        tell_messages(rt, both);
     }
-}
-
-/// The texts of both files. Where one cannot be read, the user is told.
-fn texts_of(rt: &HostRuntime, asked: Asked) -> Result<(Vec<u8>, Vec<u8>), Status> {
-    let old = source_in(rt, "snl", asked.call.job.file.as_str())?;
-    let new = source_in(rt, "snl", asked.words.new.file.as_str())?;
-    Ok((old, new))
+    code
 }
 
 /// `snl same --search`, of a call that began at a time. Answers the status.
@@ -215,23 +200,19 @@ pub fn answered_contrast(
     words: &SameWords,
     search: &SearchWords,
     begun: Option<Instant>,
-) -> u8 {
+) -> Result<u8, Status> {
     let asked = Asked {
         call,
         words,
         search,
         begun,
     };
-    let (old, new) = match texts_of(rt, asked) {
-        Ok(texts) => texts,
-        Err(status) => return status.code(),
-    };
+    let old = source_in(rt, "snl", call.job.file.as_str())?;
+    let new = source_in(rt, "snl", words.new.file.as_str())?;
     let texts = Texts {
         old: old.as_slice(),
         new: new.as_slice(),
     };
-    match both_of(rt, call, words, texts.old, texts.new) {
-        Ok(mut both) => answered_by(rt, asked, texts, &mut both),
-        Err(_) => Status::Memory.code(),
-    }
+    let mut both = both_of(rt, call, words, texts.old, texts.new)?;
+    Ok(answered_by(rt, asked, texts, &mut both))
 }

@@ -88,10 +88,8 @@ fn names_of(alloc: Global, never: &[String]) -> Result<Vec<Forbidden>, AllocErro
 fn never_of(rt: &HostRuntime, guard: Guard, judge: &Watched) -> Result<Never, Status> {
     let never = guard.words.wanted.never.as_slice();
     let places = places_of(rt, guard.job, never, judge.watch.as_ref())?;
-    match names_of(rt.alloc(), never) {
-        Ok(names) => Ok(Never { places, names }),
-        Err(_) => Err(Status::Memory),
-    }
+    let names = names_of(rt.alloc(), never)?;
+    Ok(Never { places, names })
 }
 
 /// What is wished of a search. Where a value is none, or the recorded trace cannot be opened, the user is told.
@@ -104,16 +102,19 @@ fn all_wishes(rt: &HostRuntime, guard: Guard) -> Result<PairWishes, Status> {
         old_like: recorded(rt, words)?,
         new_like: None,
     };
-    wishes_of(rt.alloc(), words, wished).map_err(|_| Status::Memory)
+    Ok(wishes_of(rt.alloc(), words, wished)?)
 }
 
 /// Says what a search answers.
-fn told_answer(rt: &HostRuntime, words: &SearchWords, answer: &WatchedAnswer) -> u8 {
+fn told_answer(
+    rt: &HostRuntime,
+    words: &SearchWords,
+    answer: &WatchedAnswer,
+) -> Result<u8, Status> {
     let written = write(rt, answer.text.as_slice());
-    if !write_trace(rt, &words.wanted.out, &answer.trace) || written.is_err() {
-        return Status::InputOutput.code();
-    }
-    answer.verdict.code()
+    write_trace(rt, &words.wanted.out, &answer.trace)?;
+    written?;
+    Ok(answer.verdict.code())
 }
 
 /// Searches a program and its requirement, by what the program hears. Answers the status.
@@ -124,10 +125,10 @@ fn searched<'c>(
     crew: Crew,
     question: &WatchedQuestion,
     limits: &mut Limits<Clock<'c>>,
-) -> u8 {
+) -> Result<u8, Status> {
     match search_watched(rt.alloc(), heard, crew, question, limits) {
         Ok(answer) => told_answer(rt, guard.words, &answer),
-        Err(fault) => told_fault(rt, guard.words, &fault),
+        Err(fault) => Ok(told_fault(rt, guard.words, &fault)),
     }
 }
 
@@ -170,7 +171,7 @@ fn searched_by(
     crew: Crew,
     never: &Never,
     wishes: &PairWishes,
-) -> u8 {
+) -> Result<u8, Status> {
     let question = WatchedQuestion {
         never: never.names.as_slice(),
         places: never.places.as_slice(),
@@ -181,22 +182,8 @@ fn searched_by(
     let machine = &crew.judge.run.machine;
     match heard_in(rt, guard, machine, &wishes.old_like, &mut limits) {
         Ok(Some(heard)) => searched(rt, guard, heard, crew, &question, &mut limits),
-        Ok(None) => Status::SourceErrors.code(),
-        Err(fault) => told_fault(rt, guard.words, &fault),
-    }
-}
-
-/// Searches by the team that judges, where memory lasts for the others. Answers the status.
-fn searched_with(
-    rt: &HostRuntime,
-    guard: Guard,
-    judge: Watched,
-    never: &Never,
-    wishes: &PairWishes,
-) -> Result<u8, AllocError> {
-    match crew_of(rt.alloc(), guard, judge)? {
-        Some(crew) => Ok(searched_by(rt, guard, crew, never, wishes)),
-        None => Ok(Status::SourceErrors.code()),
+        Ok(None) => Ok(Status::SourceErrors.code()),
+        Err(fault) => Ok(told_fault(rt, guard.words, &fault)),
     }
 }
 
@@ -212,7 +199,10 @@ fn guarded(rt: &HostRuntime, guard: Guard, judge: Watched) -> Result<u8, Status>
     )?;
     let never = never_of(rt, guard, &judge)?;
     let wishes = all_wishes(rt, guard)?;
-    searched_with(rt, guard, judge, &never, &wishes).map_err(|_| Status::Memory)
+    match crew_of(rt.alloc(), guard, judge)? {
+        Some(crew) => searched_by(rt, guard, crew, &never, &wishes),
+        None => Ok(Status::SourceErrors.code()),
+    }
 }
 
 /// The same of two sources that were read. The messages come behind the answer.
@@ -241,11 +231,8 @@ pub fn answered_guard(
     words: &SearchWords,
     job: &Job,
     begun: Option<Instant>,
-) -> u8 {
-    let watch = match source_in(rt, "snl", job.file.as_str()) {
-        Ok(watch) => watch,
-        Err(status) => return status.code(),
-    };
+) -> Result<u8, Status> {
+    let watch = source_in(rt, "snl", job.file.as_str())?;
     let watch = watch.as_slice();
     let guard = Guard {
         asked,
@@ -254,12 +241,6 @@ pub fn answered_guard(
         watch,
         begun,
     };
-    let both = match watch_pair_of(rt, asked, job, watch) {
-        Ok(both) => both,
-        Err(_) => return Status::Memory.code(),
-    };
-    match guarded_in(rt, guard, both) {
-        Ok(code) => code,
-        Err(status) => status.code(),
-    }
+    let both = watch_pair_of(rt, asked, job, watch)?;
+    guarded_in(rt, guard, both)
 }

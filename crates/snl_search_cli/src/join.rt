@@ -13,9 +13,7 @@ fn texts_in(rt: &HostRuntime, names: &[String]) -> Result<Vec<Vec<u8>>, Status> 
     let mut texts = Vec::new(rt.alloc());
     for name in names {
         let text = whole_of(rt, name.as_str())?;
-        if texts.push(text).is_err() {
-            return Err(Status::Memory);
-        }
+        texts.push(text)?;
     }
     Ok(texts)
 }
@@ -44,9 +42,7 @@ fn answers_in<'t>(
         let Some(answer) = answer_of(text) else {
             return Err(told_foreign(rt, name));
         };
-        if answers.push(answer).is_err() {
-            return Err(Status::Memory);
-        }
+        answers.push(answer)?;
     }
     Ok(answers)
 }
@@ -141,8 +137,8 @@ fn code_of(answers: &[Answer], missing: Option<u64>) -> u8 {
     }
 }
 
-/// Joins the answers in files; answers the status.
-fn joined(rt: &HostRuntime, words: &JoinWords) -> Result<u8, Status> {
+/// `snl search --join`. Answers the status.
+pub fn answered_join(rt: &HostRuntime, words: &JoinWords) -> Result<u8, Status> {
     let names = words.answers.as_slice();
     let texts = texts_in(rt, names)?;
     let answers = answers_in(rt, names, texts.as_slice())?;
@@ -152,19 +148,7 @@ fn joined(rt: &HostRuntime, words: &JoinWords) -> Result<u8, Status> {
         Some(first) => first_missing(answers, first.ground.of),
         None => None,
     };
-    let Ok(text) = text_of(rt, answers, missing) else {
-        return Err(Status::Memory);
-    };
-    if write(rt, text.as_bytes()).is_err() {
-        return Err(Status::InputOutput);
-    }
+    let text = text_of(rt, answers, missing)?;
+    write(rt, text.as_bytes())?;
     Ok(code_of(answers, missing))
-}
-
-/// `snl search --join`. Answers the status.
-pub fn answered_join(rt: &HostRuntime, words: &JoinWords) -> u8 {
-    match joined(rt, words) {
-        Ok(code) => code,
-        Err(status) => status.code(),
-    }
 }

@@ -1,13 +1,13 @@
 //! `snl search`.
 
 use snc::{Answered, Status};
-use snc_cli::write;
+use snc_cli::{opened, told_unread, write};
 use snl_alphabet::{Day, Limits, Stops, WishFault, Wishes, trace_in};
 use snl_args::{SearchWords, StopWords};
-use snl_cli::{Asked, part_of, write_suite, write_trace};
+use snl_cli::{Asked, code_of, part_of, write_suite, write_trace};
 use snl_lexicon::{Scouted, Scouting, scouted_in};
 use snl_search::{SearchAnswer, search};
-use snl_wishes::{Clock, bounds_of, opened, told_fault, told_unread, wishes_over};
+use snl_wishes::{Clock, bounds_of, told_fault, wishes_over};
 use std::alloc::{AllocError, Global};
 use std::time::Instant;
 
@@ -30,12 +30,12 @@ fn day_in(
         return Ok(None);
     };
     let name = after.trace.as_str();
-    let file = opened(rt, name).map_err(|status| status.code())?;
+    let file = opened(rt, "snl", name).map_err(|status| status.code())?;
     let clock = Clock::new(rt, begun, words.limits.seconds);
     let mut limits = Limits::new(rt.alloc(), clock, bounds_of(words).memory);
     let trace = match trace_in(rt.alloc(), &file, &mut limits) {
         Ok(trace) => trace,
-        Err(WishFault::Unread) => return Err(told_unread(rt, name).code()),
+        Err(WishFault::Unread) => return Err(told_unread(rt, "snl", name).code()),
         Err(fault) => return Err(told_fault(rt, words, &fault)),
     };
     match stops_of(rt.alloc(), &after.stops) {
@@ -52,21 +52,17 @@ fn all_wishes(
     day: Option<Day>,
 ) -> Result<Wishes, Status> {
     let trace = day.as_ref().map(|day| day.trace.as_slice());
-    let Ok(part) = part_of(rt.alloc(), asked, words, trace) else {
-        return Err(Status::Memory);
-    };
+    let part = part_of(rt.alloc(), asked, words, trace)?;
     wishes_over(rt, words, asked.units, day, part)
 }
 
 /// Says what a search answers.
-fn told_answer(rt: &HostRuntime, words: &SearchWords, answer: &SearchAnswer) -> u8 {
+fn told_answer(rt: &HostRuntime, words: &SearchWords, answer: &SearchAnswer) -> Result<u8, Status> {
     let written = write(rt, answer.text.as_slice());
-    let is_whole = write_trace(rt, &words.wanted.out, &answer.trace)
-        && write_suite(rt, &words.wanted.cover, answer.suite.as_slice());
-    if !is_whole || written.is_err() {
-        return Status::InputOutput.code();
-    }
-    answer.verdict.code()
+    write_trace(rt, &words.wanted.out, &answer.trace)?;
+    write_suite(rt, &words.wanted.cover, answer.suite.as_slice())?;
+    written?;
+    Ok(answer.verdict.code())
 }
 
 /// Searches a program that was scouted. Answers the status.
@@ -76,19 +72,16 @@ fn searched(
     asked: Asked,
     words: &SearchWords,
     begun: Option<Instant>,
-) -> u8 {
+) -> Result<u8, Status> {
     let day = match day_in(rt, words, begun) {
         Ok(day) => day,
-        Err(code) => return code,
+        Err(code) => return Ok(code),
     };
-    let wishes = match all_wishes(rt, asked, words, day) {
-        Ok(wishes) => wishes,
-        Err(status) => return status.code(),
-    };
+    let wishes = all_wishes(rt, asked, words, day)?;
     let clock = Clock::new(rt, begun, words.limits.seconds);
     match search(rt.alloc(), scouted, &wishes, clock) {
         Ok(answer) => told_answer(rt, words, &answer),
-        Err(fault) => told_fault(rt, words, &fault),
+        Err(fault) => Ok(told_fault(rt, words, &fault)),
     }
 }
 
@@ -98,25 +91,19 @@ pub fn answered_search(
     asked: Asked,
     words: &SearchWords,
     begun: Option<Instant>,
-) -> u8 {
+) -> Result<u8, Status> {
     let scouting = Scouting {
         budget: words.limits.budget,
         never: words.wanted.never.as_slice(),
     };
-    let Ok(Answered { messages, made }) = scouted_in(
-        rt.alloc(),
-        &asked.call.job,
-        asked.source,
-        &scouting,
-    ) else {
-        return Status::Memory.code();
-    };
+    let job = &asked.call.job;
+    let Answered { messages, made } = scouted_in(rt.alloc(), job, asked.source, &scouting)?;
     let code = match made {
-        Some(scouted) => searched(rt, Box::into_inner(scouted), asked, words, begun),
+        Some(scouted) => code_of(searched(rt, Box::into_inner(scouted), asked, words, begun)),
         None => Status::SourceErrors.code(),
     };
     if code != Status::Memory.code() {
         asked.tell(rt, messages.as_slice());
     }
-    code
+    Ok(code)
 }

@@ -5,8 +5,9 @@ use crate::nevers::tested_never;
 use crate::requirements::{Watching, tested_watch, watching_of};
 use crate::trial::{outcome_of, verdict_of, wanted_status};
 use snc::{Answered, Status};
+use snc_cli::write;
 use snl_args::{Call, TestWords};
-use snl_cli::{Folder, Halt, Tally, Verdict, folders_of, subject_of, told, wrong};
+use snl_cli::{Folder, Halt, Tally, Verdict, folders_of, subject_of, wrong};
 use snl_coverage::{Coverage, Runner, gaps_of};
 use snl_suite::{Day, Program};
 use std::alloc::AllocError;
@@ -118,14 +119,9 @@ fn tell_coverage(
         return Ok(());
     }
     let (front, name) = (folder.front.as_str(), program.name.as_str());
-    let line = match format!(in rt.alloc(); "{front}{name}") {
-        Ok(name) => coverage_line(rt, name.as_str(), runner.coverage()),
-        Err(fault) => Err(fault),
-    };
-    match line {
-        Ok(line) => told(rt, line.as_bytes()),
-        Err(_) => Err(Status::Memory),
-    }
+    let name = format!(in rt.alloc(); "{front}{name}")?;
+    let line = coverage_line(rt, name.as_str(), runner.coverage())?;
+    write(rt, line.as_bytes())
 }
 
 /// Runs all tests of a program that can be run.
@@ -145,14 +141,6 @@ fn tested_days(
     tell_coverage(rt, folder, program, subject)
 }
 
-/// The name of a test by a file beside a program.
-fn beside(rt: &HostRuntime, stem: &str, ending: &str) -> Result<String, Status> {
-    match format!(in rt.alloc(); "{stem}{ending}") {
-        Ok(name) => Ok(name),
-        Err(_) => Err(Status::Memory),
-    }
-}
-
 /// Searches a program for what may not be found, where a file says that.
 fn tested_search(
     rt: &HostRuntime,
@@ -164,7 +152,7 @@ fn tested_search(
     if !program.has_never {
         return Ok(());
     }
-    let name = beside(rt, program.name.as_str(), ".never")?;
+    let name = format!(in rt.alloc(); "{}.never", program.name)?;
     let begun = Instant::now(rt).ok();
     let verdict = settled(tested_never(rt, call, folder, program))?;
     tally.note(rt, folder, name.as_str(), &verdict, begun)
@@ -185,7 +173,7 @@ fn watched_days(
 ) -> Result<(), Status> {
     for day in &program.days {
         if can_run(program, day) {
-            let name = beside(rt, day.stem.as_str(), ".watch")?;
+            let name = format!(in rt.alloc(); "{}.watch", day.stem)?;
             let begun = Instant::now(rt).ok();
             let of = program.name.as_str();
             let verdict = settled(tested_watch(rt, watching, folder, of, day))?;
@@ -209,7 +197,7 @@ fn tested_watches(
     match watching_of(rt, call, folder, program) {
         Ok(watching) => watched_days(rt, &watching, folder, program, tally),
         Err(halt) => {
-            let name = beside(rt, program.name.as_str(), ".watch")?;
+            let name = format!(in rt.alloc(); "{}.watch", program.name)?;
             let verdict = settled(Err(halt))?;
             tally.note(rt, folder, name.as_str(), &verdict, None)
         }
@@ -249,11 +237,8 @@ fn tell_orphan(
         Some((stem, _)) => stem,
         None => file,
     };
-    let halt = match format!(in rt.alloc(); ": there is no program for {file}\n") {
-        Ok(text) => wrong(rt.alloc(), text.as_str()),
-        Err(_) => Halt::End(Status::Memory),
-    };
-    let verdict = settled(Err(halt))?;
+    let text = format!(in rt.alloc(); ": there is no program for {file}\n")?;
+    let verdict = settled(Err(wrong(rt.alloc(), text.as_str())))?;
     tally.note(rt, folder, stem, &verdict, None)
 }
 

@@ -2,9 +2,9 @@
 
 use crate::units::units_for;
 use snc::Status;
-use snc_cli::{Lines, Outlet, tell};
+use snc_cli::{Lines, Outlet, tell, told_unread};
 use snl_args::{Call, NamedNumber, NamedText, TraceWords};
-use snl_cli::{LogFeed, Traced, VERSION, feeds_of, held_logs, told_unread, traced_program};
+use snl_cli::{LogFeed, Traced, VERSION, feeds_of, held_logs, traced_program};
 use snl_import::{
     AnyProgram, ChannelNumber, ChannelText, ImportError, Imported, LoadedProgram, Program, Wishes,
     import,
@@ -108,7 +108,7 @@ fn wishes_of(
 fn told_broken(rt: &HostRuntime, words: &TraceWords, file: &[u8]) -> Status {
     for log in &words.span.logs {
         if log.as_bytes() == file {
-            return told_unread(rt, log.as_str());
+            return told_unread(rt, "snl", log.as_str());
         }
     }
     Status::InputOutput
@@ -149,9 +149,7 @@ fn written<P: Program + Drop>(
     program: P,
     feeds: &mut [LogFeed<'_>],
 ) -> Result<Imported, Status> {
-    let Ok(mut lines) = Lines::new(rt.alloc(), Outlet::new(rt.stdout())) else {
-        return Err(Status::Memory);
-    };
+    let mut lines = Lines::new(rt.alloc(), Outlet::new(rt.stdout()))?;
     let imported = import(rt.alloc(), wishes, program, feeds, &mut lines);
     let finished = lines.finish();
     match imported {
@@ -186,9 +184,7 @@ fn written_for(
 /// `snl trace`.
 pub fn answered_trace(rt: &HostRuntime, call: &Call, words: &TraceWords) -> Result<Status, Status> {
     let units = units_for(rt, call)?;
-    let Ok(wishes) = wishes_of(rt.alloc(), words, units) else {
-        return Err(Status::Memory);
-    };
+    let wishes = wishes_of(rt.alloc(), words, units)?;
     if words.has_program {
         let traced = traced_program(rt, call)?;
         return written_for(rt, words, wishes, traced);

@@ -1,7 +1,7 @@
 //! What is told of a wish that cannot be met.
 
-use crate::traces::told_unread;
 use snc::Status;
+use snc_cli::told_unread;
 use snl_alphabet::{Verdict, WishFault};
 use snl_args::SearchWords;
 
@@ -15,7 +15,7 @@ fn told_bad_line(rt: &HostRuntime, name: &str, fault: &WishFault) -> u8 {
 pub fn told_fault(rt: &HostRuntime, words: &SearchWords, fault: &WishFault) -> u8 {
     match (fault, &words.wanted.like, &words.alphabet.after) {
         (WishFault::Memory, _, _) => Status::Memory.code(),
-        (WishFault::Unread, Some(name), _) => told_unread(rt, name.as_str()).code(),
+        (WishFault::Unread, Some(name), _) => told_unread(rt, "snl", name.as_str()).code(),
         (WishFault::BadLine(_, _), Some(name), _) => told_bad_line(rt, name.as_str(), fault),
         (WishFault::BadDay(_, _), _, Some(after)) => {
             told_bad_line(rt, after.trace.as_str(), fault)

@@ -10,6 +10,6 @@ mod wishes;
 
 pub use clock::Clock;
 pub use faults::told_fault;
-pub use traces::{opened, recorded, told_unread};
+pub use traces::recorded;
 pub use units::wished_values;
 pub use wishes::{bounds_of, owned, times_of, wishes_over};

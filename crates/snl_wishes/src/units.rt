@@ -4,7 +4,7 @@ use snc::Status;
 use snl_alphabet::WishedValues;
 use snl_args::ChannelValues;
 use snl_units::{ChannelUnits, PutFault, ValueFault, line_in_units, value_of};
-use std::alloc::{AllocError, Global};
+use std::alloc::AllocError;
 
 /// Tells that a value of a word is none of its channel.
 fn told_value(
@@ -25,11 +25,9 @@ fn told_named(
     given: &ChannelValues,
     value: &str,
     fault: ValueFault,
-) -> Status {
-    match format!(in rt.alloc(); "{}={value}", given.name) {
-        Ok(word) => told_value(rt, option, word.as_str(), value, fault),
-        Err(_) => Status::Memory,
-    }
+) -> Result<Status, AllocError> {
+    let word = format!(in rt.alloc(); "{}={value}", given.name)?;
+    Ok(told_value(rt, option, word.as_str(), value, fault))
 }
 
 /// The values of a channel, as whole numbers of a trace. Where one is none, the user is told.
@@ -42,16 +40,11 @@ fn values_in(
     let mut values = Vec::new(rt.alloc());
     for value in &given.values {
         match value_of(units, given.name.as_bytes(), value.as_bytes()) {
-            Ok(number) => values.push(number).map_err(|_| Status::Memory)?,
-            Err(fault) => return Err(told_named(rt, option, given, value.as_str(), fault)),
+            Ok(number) => values.push(number)?,
+            Err(fault) => return Err(told_named(rt, option, given, value.as_str(), fault)?),
         }
     }
     Ok(values)
-}
-
-/// A name of the caller's own.
-fn owned(alloc: Global, name: &str) -> Result<String, Status> {
-    String::from_str(alloc, name).map_err(|_| Status::Memory)
 }
 
 /// The values that a word of a call gives channels, as whole numbers of a trace. Where one is none, the user is told.
@@ -64,10 +57,10 @@ pub fn wished_values(
     let mut all = Vec::new(rt.alloc());
     for one in given {
         let wished = WishedValues {
-            name: owned(rt.alloc(), one.name.as_str())?,
+            name: String::from_str(rt.alloc(), one.name.as_str())?,
             values: values_in(rt, units, option, one)?,
         };
-        all.push(wished).map_err(|_| Status::Memory)?;
+        all.push(wished)?;
     }
     Ok(all)
 }
@@ -90,7 +83,7 @@ pub fn wished_lines(
     let mut all = Vec::new(rt.alloc());
     for word in words {
         let line = line_of(rt, units, word.as_str())?;
-        all.push(line).map_err(|_| Status::Memory)?;
+        all.push(line)?;
     }
     Ok(all)
 }

@@ -98,5 +98,5 @@ pub fn wishes_over(
 ) -> Result<Wishes, Status> {
     let wished = wished_in(rt, words, units)?;
     let like = recorded(rt, words)?;
-    wishes_of(rt.alloc(), words, wished, like, day, part).map_err(|_| Status::Memory)
+    Ok(wishes_of(rt.alloc(), words, wished, like, day, part)?)
 }
