@@ -48,7 +48,7 @@ pub use same::{Both, answered_same, both_of, tell_messages};
 pub use sets::answered_sets;
 pub use shares::part_of;
 pub use sources::answered_checks;
-pub use subjects::{job_of, path_in, program_source, small_text, subject_of};
+pub use subjects::{job_of, path_in, program_source, small_text, subject_of, unread};
 pub use suites::{Folder, folders_of};
 pub use tallies::Tally;
 pub use trace_programs::{Traced, traced_program};

@@ -46,10 +46,7 @@ pub fn small_text(
     match read_small(rt, path.as_str()) {
         Ok(text) => Ok(text),
         Err(fault) if fault.kind() == ErrorKind::OutOfMemory => Err(Halt::End(Status::Memory)),
-        Err(fault) => {
-            let text = format!(in rt.alloc(); ": cannot read {stem}{ending}: {fault}\n")?;
-            Err(stuck(rt.alloc(), text.as_str()))
-        }
+        Err(fault) => Err(stuck(format!(in rt.alloc(); ": cannot read {stem}{ending}: {fault}\n"))),
     }
 }
 
@@ -66,28 +63,26 @@ fn words_in(alloc: Global, text: &str) -> Result<Vec<String>, AllocError> {
 }
 
 /// A test is wrong by the words in its file.
-fn wrong_words(alloc: Global, name: &str, fault: &WordsFault) -> Result<Halt, AllocError> {
-    let text = match fault {
-        WordsFault::BadOption(sign, letter) => format!(in alloc;
+fn wrong_words(alloc: Global, name: &str, fault: &WordsFault) -> Halt {
+    match fault {
+        WordsFault::BadOption(sign, letter) => wrong(format!(in alloc;
             ": {name}.args: option '{sign}{letter}' is not supported\n"
-        )?,
+        )),
         WordsFault::Usage(text) | WordsFault::Help(text) => {
             let line = text.as_str().lines().next().unwrap_or("");
-            format!(in alloc; ": {name}.args: {line}\n")?
+            wrong(format!(in alloc; ": {name}.args: {line}\n"))
         }
-        WordsFault::Memory => return Ok(Halt::End(Status::Memory)),
-    };
-    Ok(wrong(alloc, text.as_str()))
+        WordsFault::Memory => Halt::End(Status::Memory),
+    }
 }
 
 /// Sees that the macros of a job are some.
 fn check_macros(alloc: Global, name: &str, job: &Job) -> Result<(), Halt> {
     match &job.macros {
         Some(macros) if !macros.is_empty() && !macros.contains('=') => {
-            let text = format!(in alloc;
+            Err(wrong(format!(in alloc;
                 ": {name}.args: '{macros}' stands in the place of MACROS, which are NAME=VALUE,..\n"
-            )?;
-            Err(wrong(alloc, text.as_str()))
+            )))
         }
         _ => Ok(()),
     }
@@ -101,7 +96,7 @@ fn job_in(alloc: Global, name: &str, text: &str) -> Result<Job, Halt> {
             check_macros(alloc, name, &job)?;
             Ok(job)
         }
-        Err(fault) => Err(wrong_words(alloc, name, &fault)?),
+        Err(fault) => Err(wrong_words(alloc, name, &fault)),
     }
 }
 
@@ -134,6 +129,11 @@ pub fn job_of(
     Ok(job)
 }
 
+/// A file of a test can't be read.
+pub fn unread(rt: &HostRuntime, stem: &str, ending: &str) -> Halt {
+    stuck(format!(in rt.alloc(); ": cannot read {stem}{ending}\n"))
+}
+
 /// The source in a file of a test.
 pub fn program_source(
     rt: &HostRuntime,
@@ -143,10 +143,7 @@ pub fn program_source(
 ) -> Result<Vec<u8>, Halt> {
     match source_of(rt, "snl", path) {
         Ok(source) => Ok(source),
-        Err(Status::InputOutput) => {
-            let text = format!(in rt.alloc(); ": cannot read {name}{ending}\n")?;
-            Err(stuck(rt.alloc(), text.as_str()))
-        }
+        Err(Status::InputOutput) => Err(unread(rt, name, ending)),
         Err(status) => Err(Halt::End(status)),
     }
 }

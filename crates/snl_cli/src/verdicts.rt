@@ -1,7 +1,7 @@
 //! What comes of a test.
 
 use snc::Status;
-use std::alloc::{AllocError, Global};
+use std::alloc::AllocError;
 
 /// What came of a test, with what stands behind its name in the answer.
 #[derive(Drop)]
@@ -31,15 +31,10 @@ impl From<AllocError> for Halt {
     }
 }
 
-/// A text as bytes.
-fn bytes_of(alloc: Global, text: &str) -> Result<Vec<u8>, AllocError> {
-    Vec::from_slice(alloc, text.as_bytes())
-}
-
-/// A test is wrong, by a text.
-pub fn wrong(alloc: Global, text: &str) -> Halt {
-    match bytes_of(alloc, text) {
-        Ok(text) => Halt::Verdict(Verdict::Wrong(text)),
+/// A test is wrong, by a text that was made of it.
+pub fn wrong(text: Result<String, AllocError>) -> Halt {
+    match text {
+        Ok(text) => wrong_bytes(text.into_bytes()),
         Err(_) => Halt::End(Status::Memory),
     }
 }
@@ -49,10 +44,10 @@ pub fn wrong_bytes(text: Vec<u8>) -> Halt {
     Halt::Verdict(Verdict::Wrong(text))
 }
 
-/// A file of a test could not be read or written, by a text.
-pub fn stuck(alloc: Global, text: &str) -> Halt {
-    match bytes_of(alloc, text) {
-        Ok(text) => Halt::Verdict(Verdict::Stuck(text)),
+/// A file of a test could not be read or written, by a text that was made of it.
+pub fn stuck(text: Result<String, AllocError>) -> Halt {
+    match text {
+        Ok(text) => Halt::Verdict(Verdict::Stuck(text.into_bytes())),
         Err(_) => Halt::End(Status::Memory),
     }
 }

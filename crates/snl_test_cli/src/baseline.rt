@@ -2,9 +2,9 @@
 
 ghost use Rattle.std.specs.Prelude.{◌≡◌, ◌-◌, ◌^◌, ◌<◌, []};
 
-use crate::trial::{opened, unread};
+use crate::trial::opened;
 use snc::{Answered, Status, status_of};
-use snl_cli::{Folder, Halt, Verdict, path_in, stuck, wrong};
+use snl_cli::{Folder, Halt, Verdict, path_in, stuck, unread, wrong};
 use snl_coverage::{Covered, Runner};
 use snl_suite::{Day, Written};
 use snl_trace::{End, Source};
@@ -62,15 +62,11 @@ fn unwritten(rt: &HostRuntime, stem: &str, ending: &str, fault: &io::Error) -> H
     if fault.kind() == ErrorKind::OutOfMemory {
         return Halt::End(Status::Memory);
     }
-    let told = if fault.kind() == ErrorKind::AlreadyExists {
+    stuck(if fault.kind() == ErrorKind::AlreadyExists {
         format!(in rt.alloc(); ": cannot write {stem}{ending}: {stem}{ending}.new is in the way\n")
     } else {
         format!(in rt.alloc(); ": cannot write {stem}{ending}: {fault}\n")
-    };
-    match told {
-        Ok(text) => stuck(rt.alloc(), text.as_str()),
-        Err(_) => Halt::End(Status::Memory),
-    }
+    })
 }
 
 /// Puts a new file in the place of an old one, whose permissions it gets.
@@ -100,8 +96,7 @@ fn refusal_of(rt: &HostRuntime, stem: &str, end: Option<End>) -> Result<Option<H
         )?,
         Some(_) => return Ok(None),
     };
-    let text = format!(in rt.alloc(); ": {cause} (--bless --force writes that)\n")?;
-    Ok(Some(wrong(rt.alloc(), text.as_str())))
+    Ok(Some(wrong(format!(in rt.alloc(); ": {cause} (--bless --force writes that)\n"))))
 }
 
 /// The status of a run that ended so, or of a program with an error.

@@ -28,10 +28,7 @@ struct Aim {
 
 /// A test is wrong by what its file says.
 fn wrong_never(rt: &HostRuntime, name: &str, text: &str) -> Halt {
-    match format!(in rt.alloc(); ": {name}.never: {text}\n") {
-        Ok(text) => wrong(rt.alloc(), text.as_str()),
-        Err(_) => Halt::End(Status::Memory),
-    }
+    wrong(format!(in rt.alloc(); ": {name}.never: {text}\n"))
 }
 
 /// A test is wrong by the words in its file.
@@ -133,22 +130,15 @@ fn aim_of(rt: &HostRuntime, folder: &Folder, name: &str) -> Result<Aim, Halt> {
 
 /// A test can't be run since a recorded trace can't be read.
 fn unread_like(rt: &HostRuntime, name: &str) -> Halt {
-    match format!(in rt.alloc(); ": {name}.never: the trace of --like can't be read\n") {
-        Ok(text) => stuck(rt.alloc(), text.as_str()),
-        Err(_) => Halt::End(Status::Memory),
-    }
+    stuck(format!(in rt.alloc(); ": {name}.never: the trace of --like can't be read\n"))
 }
 
 /// A test is wrong by what it wishes of its program.
 fn wrong_wish(rt: &HostRuntime, name: &str, fault: &WishFault) -> Halt {
     match fault {
-        WishFault::Memory => return Halt::End(Status::Memory),
-        WishFault::Unread => return unread_like(rt, name),
-        _ => {}
-    }
-    match format!(in rt.alloc(); "{fault}") {
-        Ok(text) => wrong_never(rt, name, text.as_str()),
-        Err(_) => Halt::End(Status::Memory),
+        WishFault::Memory => Halt::End(Status::Memory),
+        WishFault::Unread => unread_like(rt, name),
+        _ => wrong(format!(in rt.alloc(); ": {name}.never: {fault}\n")),
     }
 }
 

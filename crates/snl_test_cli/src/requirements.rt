@@ -3,11 +3,11 @@
 ghost use Rattle.std.specs.Prelude.{◌≡◌, ◌-◌, ◌^◌, ◌<◌, []};
 
 use crate::nevers::wrong_source;
-use crate::trial::{opened, push_lines, unread};
+use crate::trial::{opened, push_lines};
 use snc::{Answered, Job, Status};
 use snl_args::Call;
 use snl_cli::{
-    Folder, Halt, Verdict, job_of, path_in, program_source, small_text, wrong, wrong_bytes,
+    Folder, Halt, Verdict, job_of, path_in, program_source, small_text, unread, wrong, wrong_bytes,
 };
 use snl_observer::{Close, ForbiddenState, Observed, Program as Watcher, observe, program_of};
 use snl_suite::{Day, Program, push_visible, states_in};
@@ -88,10 +88,10 @@ fn check_pair(alloc: Global, run: &Watcher, watch: &Watcher) -> Result<(), Halt>
         return Err(wrong_channel(alloc, name)?);
     }
     if watch.waits() {
-        return Err(wrong(
+        return Err(wrong(String::from_str(
             alloc,
             ": the requirement waits for its channels: it does not, and says so by 'option -c;'\n",
-        ));
+        )));
     }
     Ok(())
 }
@@ -114,10 +114,9 @@ fn places_in(
         match place_of(watch, state) {
             Some(place) => places.push(place).map_err(|_| AllocError)?,
             None => {
-                let text = format!(in alloc;
+                return Err(wrong(format!(in alloc;
                     ": {name}.watch.never: '{state}' is no state of the requirement: it is SS.STATE\n"
-                )?;
-                return Err(wrong(alloc, text.as_str()));
+                )));
             }
         }
     }

@@ -53,12 +53,10 @@ pub fn check_tests(rt: &HostRuntime, words: &TestWords) -> Result<(), Status> {
 fn check_files(rt: &HostRuntime, program: &Program, day: &Day, blesses: bool) -> Result<(), Halt> {
     let stem = day.stem.as_str();
     if !day.has_trace && stem != program.name.as_str() {
-        let text = format!(in rt.alloc(); ": {stem}.trace is missing\n")?;
-        return Err(wrong(rt.alloc(), text.as_str()));
+        return Err(wrong(format!(in rt.alloc(); ": {stem}.trace is missing\n")));
     }
     if !day.has_out && !blesses {
-        let text = format!(in rt.alloc(); ": {stem}.out is missing (--bless writes it)\n")?;
-        return Err(wrong(rt.alloc(), text.as_str()));
+        return Err(wrong(format!(in rt.alloc(); ": {stem}.out is missing (--bless writes it)\n")));
     }
     Ok(())
 }
@@ -237,8 +235,8 @@ fn tell_orphan(
         Some((stem, _)) => stem,
         None => file,
     };
-    let text = format!(in rt.alloc(); ": there is no program for {file}\n")?;
-    let verdict = settled(Err(wrong(rt.alloc(), text.as_str())))?;
+    let halt = wrong(format!(in rt.alloc(); ": there is no program for {file}\n"));
+    let verdict = settled(Err(halt))?;
     tally.note(rt, folder, stem, &verdict, None)
 }
 

@@ -4,7 +4,7 @@ ghost use Rattle.std.specs.Prelude.{◌≡◌, ◌-◌, ◌^◌, ◌<◌, [], If
 
 use snc::{Answered, Status};
 use snc_cli::Stream;
-use snl_cli::{Folder, Halt, Verdict, path_in, small_text, stuck, wrong};
+use snl_cli::{Folder, Halt, Verdict, path_in, small_text, unread, wrong};
 use snl_coverage::Runner;
 use snl_suite::{Agreement, Day, difference_text, push_visible};
 use snl_trace::{End, Source};
@@ -35,18 +35,9 @@ pub fn wanted_status(rt: &HostRuntime, folder: &Folder, day: &Day) -> Result<u8,
     let text = small_text(rt, folder, stem, ".status")?;
     match text.as_str().trim_ascii().parse::<u8>() {
         Ok(status) => Ok(status),
-        Err(_) => {
-            let told = format!(in rt.alloc(); ": {stem}.status has no number from 0 to 255\n")?;
-            Err(wrong(rt.alloc(), told.as_str()))
-        }
-    }
-}
-
-/// A file of a test can't be read.
-pub fn unread(rt: &HostRuntime, stem: &str, ending: &str) -> Halt {
-    match format!(in rt.alloc(); ": cannot read {stem}{ending}\n") {
-        Ok(text) => stuck(rt.alloc(), text.as_str()),
-        Err(_) => Halt::End(Status::Memory),
+        Err(_) => Err(wrong(format!(in rt.alloc();
+            ": {stem}.status has no number from 0 to 255\n"
+        ))),
     }
 }
 
