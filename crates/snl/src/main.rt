@@ -7,8 +7,8 @@ use snc::Status;
 use snc_cli::{source_in, tell, words_of, write};
 use snl_args::{Call, CallFault, SameWords, SearchWords, Word, read_call};
 use snl_cli::{
-    Asked, VERSION, answered_at, answered_checks, answered_cover, answered_graph, answered_run,
-    answered_same, answered_sets, answered_tree, answered_waits, check_counts, check_lints,
+    Asked, ProgramText, VERSION, answered_at, answered_checks, answered_cover, answered_graph,
+    answered_run, answered_same, answered_text, answered_waits, check_counts, check_lints,
     check_macros, check_outputs, code_of, notes_of,
 };
 use snl_pair_cli::{answered_contrast, answered_guard};
@@ -144,8 +144,9 @@ fn answered_word(rt: &HostRuntime, asked: Asked, begun: Option<Instant>) -> Resu
         Word::At(words) => answered_at(rt, asked, words),
         Word::Cover(words) => answered_cover(rt, asked, words),
         Word::Graph(words) => answered_graph(rt, asked, words),
-        Word::Tree => answered_tree(rt, asked),
-        Word::Sets(declares) => answered_sets(rt, asked, *declares),
+        Word::Tree => answered_text(rt, asked, ProgramText::Tree),
+        Word::Sets(true) => answered_text(rt, asked, ProgramText::Declarations),
+        Word::Sets(false) => answered_text(rt, asked, ProgramText::States),
         Word::Search(words) => return answered_sought(rt, asked, words, begun),
         Word::Check(words) => Ok(answered_checks(rt, asked.call, words)),
         Word::Trace(words) => answered_trace(rt, asked.call, words),
