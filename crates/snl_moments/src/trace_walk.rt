@@ -16,8 +16,7 @@ use crate::times::come_towards;
 use crate::walk_end::{finish_amid, finish_bad, finish_over, tell_into};
 use crate::walks::{Asked, Close, Sort};
 use arrayvec::ArrayVec;
-use memchr::memchr;
-use snl_trace::{Source, TraceFault};
+use snl_trace::{Source, TraceFault, first_line};
 use std::alloc::{AllocError, Global};
 
 /// One byte more than a line may have: with that many it is known to be too long.
@@ -28,16 +27,6 @@ type Line = ArrayVec<u8, LINE_HELD>;
 
 /// How many bytes are read at once at most.
 const PIECE: usize = 65_536;
-
-/// The bytes before the first newline, and those behind it; None where there is none.
-fn first_line(text: &[u8]) -> Option<(&[u8], &[u8])>
-    ensures cut { IfSome result (λ cut. text.now ≡ cut.0.now ++ 10 ∷ cut.1.now) }
-    ensures first { IfSome result (λ cut. All (λ byte. byte ≢ 10) cut.0.now) }
-    ensures none { IfNone result (All (λ byte. byte ≢ 10) text.now) }
-{
-    let end = memchr(b'\n', text)?;
-    Some((&text[..end], &text[end + 1..]))
-}
 
 /// Adds bytes to a line; answers whether it is not too long then.
 fn extend(line: &mut Line, bytes: &[u8]) -> bool

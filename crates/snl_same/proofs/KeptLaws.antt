@@ -4,7 +4,8 @@ use Rattle.std.proofs.lemmas.List.{drop_more, length-drop, take_all}
 use Rattle.std.proofs.lemmas.List.Elements.{All-get_or}
 use Rattle.snl_output.specs.TraceLines.{whole_lines}
 use Rattle.snl_same.specs.Kept.{counting, is_put_again, last_puts}
-use Rattle.snl_same.specs.Words.{channel_of, counts, time_of}
+use Rattle.snl_heard.specs.Words.{time_of}
+use Rattle.snl_same.specs.Words.{channel_of, counts}
 use Rattle.snl_same.specs.declared.filters.Filter.{Filter}
 use Rattle.snl_trace.proofs.LineLaws.{lines_to-end, lines_to-newline}
 

@@ -4,7 +4,8 @@ use Rattle.snl_meaning.specs.declared.faults.Fault.{Fault}
 use Rattle.snl_same.specs.Firsts.{first_difference}
 use Rattle.snl_same.specs.Kept.{kept, last_puts}
 use Rattle.snl_same.specs.Lines.{EndAlike}
-use Rattle.snl_same.specs.Words.{channel_of, counts, is_put, time_of}
+use Rattle.snl_heard.specs.Words.{time_of}
+use Rattle.snl_same.specs.Words.{channel_of, counts, is_put}
 use Rattle.snl_same.specs.declared.filters.Filter.{Filter}
 use Rattle.snl_trace.specs.declared.runner.End.TheVariants as end
 

@@ -1,7 +1,8 @@
 -- What of an output is compared.
 use Rattle.std.specs.Prelude.{ℕ, Bool, true, false, List, [], ◌∷◌, bytes_eq, if◌then◌else◌}
 use Rattle.snl_output.specs.TraceLines.{whole_lines}
-use Rattle.snl_same.specs.Words.{channel_of, counts, time_of}
+use Rattle.snl_heard.specs.Words.{time_of}
+use Rattle.snl_same.specs.Words.{channel_of, counts}
 use Rattle.snl_same.specs.declared.filters.Filter.{Filter}
 
 -- The lines that count.

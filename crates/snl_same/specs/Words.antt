@@ -1,21 +1,8 @@
 -- What a line of the output says, word by word: `MS put CHANNEL V ..` is a put.
-use Rattle.std.specs.Prelude.{◌==◌, not, ℕ, Bool, List, [], ◌∷◌, bytes_eq, codes, string_bytes, if◌then◌else◌}
+use Rattle.std.specs.Prelude.{not, ℕ, Bool, List, bytes_eq, codes, string_bytes, if◌then◌else◌}
 use Rattle.std.specs.List.{list_any}
+use Rattle.snl_heard.specs.Words.{behind, word}
 use Rattle.snl_same.specs.declared.filters.Filter.{Filter}
-
--- The bytes of a text before its first blank,
-unfoldable pub word : List ℕ → List ℕ
-word [] = []
-word (byte ∷ bytes) = if byte == 32 then [] else byte ∷ word bytes
-
--- and those behind it.
-unfoldable pub behind : List ℕ → List ℕ
-behind [] = []
-behind (byte ∷ bytes) = if byte == 32 then bytes else behind bytes
-
--- The time of a line, as it is spelled.
-abbrev pub time_of : List ℕ → List ℕ
-time_of line = word line
 
 -- Whether a line is a put,
 abbrev pub is_put : List ℕ → Bool

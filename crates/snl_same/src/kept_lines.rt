@@ -1,23 +1,13 @@
 //! What of a text is compared, as a list of lines.
 
-ghost use Rattle.std.specs.Prelude.{◌≡◌, ◌≢◌, ◌++◌, ◌∷◌, [], All, IfNone, IfOk, IfSome, OnOk, map, if◌then◌else◌};
+ghost use Rattle.std.specs.Prelude.{◌≡◌, ◌++◌, ◌∷◌, [], IfOk, OnOk, map, if◌then◌else◌};
 ghost use Rattle.snl_output.specs.TraceLines.{whole_lines};
 ghost use Rattle.snl_same.specs.Kept as spec;
 
 use crate::filters::Filter;
 use crate::words::{channel_of, counts, has_time_of};
-use memchr::memchr;
+use snl_trace::first_line;
 use std::alloc::{AllocError, Global};
-
-/// The bytes before the first newline, and those behind it; None where there is none.
-pub(crate) fn first_line(text: &[u8]) -> Option<(&[u8], &[u8])>
-    ensures cut { IfSome result (λ cut. text.now ≡ cut.0.now ++ 10 ∷ cut.1.now) }
-    ensures first { IfSome result (λ cut. All (λ byte. byte ≢ 10) cut.0.now) }
-    ensures none { IfNone result (All (λ byte. byte ≢ 10) text.now) }
-{
-    let end = memchr(b'\n', text)?;
-    Some((&text[..end], &text[end + 1..]))
-}
 
 /// Adds a line, if it is to be added. The only error is that memory ends.
 fn push_if<'t>(kept: &mut Vec<&'t [u8]>, line: &'t [u8], is_kept: bool) -> Result<(), AllocError>

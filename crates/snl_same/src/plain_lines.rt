@@ -4,9 +4,8 @@ ghost use Rattle.std.specs.Prelude.{◌≡◌, ◌≢◌, ◌++◌, ◌∷◌, S
 ghost use Rattle.snl_machine.specs.Lookup.{channel_of};
 ghost use Rattle.snl_same.specs.Hearing.{Tells, with_number};
 
-use crate::kept_lines::first_line;
 use snl_machine::{Event, Machine};
-use snl_trace::{Plain, Telling, plain_line};
+use snl_trace::{Plain, Telling, first_line, plain_line};
 
 /// The numbers of a channel: that of the old program, and that of the new one.
 #[derive(Clone, Copy)]

@@ -7,7 +7,7 @@ use crate::differences::{Apart, Close};
 use crate::logs::Log;
 use crate::puts::push_puts;
 use crate::sides::Side;
-use crate::words::word;
+use snl_heard::word;
 use snl_output::{push_all, push_counted, push_told};
 use snl_trace::{End, TraceFault};
 use snl_watch::line_number;

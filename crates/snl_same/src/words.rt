@@ -1,44 +1,15 @@
 //! The words of a line of the output: `MS put CHANNEL V ..`.
 
-ghost use Rattle.std.specs.Prelude.{◌≡◌, ◌≢◌, ◌++◌, ◌∷◌, All, IfNone, IfSome, bytes_eq};
+ghost use Rattle.std.specs.Prelude.{◌≡◌, bytes_eq};
+ghost use Rattle.snl_heard.specs.Words.{time_of};
 ghost use Rattle.snl_same.specs.Words as spec;
 
 use crate::filters::Filter;
-use memchr::memchr;
-
-/// A text cut at its first blank; None where it has none.
-fn cut_at_blank(text: &[u8]) -> Option<(&[u8], &[u8])>
-    ensures cut { IfSome result (λ cut. text.now ≡ cut.0.now ++ 32 ∷ cut.1.now) }
-    ensures first { IfSome result (λ cut. All (λ byte. byte ≢ 32) cut.0.now) }
-    ensures none { IfNone result (All (λ byte. byte ≢ 32) text.now) }
-{
-    let end = memchr(b' ', text)?;
-    Some((&text[..end], &text[end + 1..]))
-}
-
-/// The bytes of a text before its first blank.
-pub(crate) fn word(text: &[u8]) -> &[u8]
-    ensures { result.now ≡ spec.word text.now }
-{
-    match cut_at_blank(text) {
-        Some((word, _behind)) => word,
-        None => text,
-    }
-}
-
-/// The bytes of a text behind its first blank.
-fn behind(text: &[u8]) -> &[u8]
-    ensures { result.now ≡ spec.behind text.now }
-{
-    match cut_at_blank(text) {
-        Some((_word, behind)) => behind,
-        None => b"",
-    }
-}
+use snl_heard::{behind, word};
 
 /// Whether two lines have the same time.
 pub(crate) fn has_time_of(line: &[u8], other: &[u8]) -> bool
-    ensures { result ≡ bytes_eq (spec.time_of line.now) (spec.time_of other.now) }
+    ensures { result ≡ bytes_eq (time_of line.now) (time_of other.now) }
 {
     word(line) == word(other)
 }

@@ -20,6 +20,7 @@ mod trace_faults;
 mod words;
 
 pub use events::Events;
+pub use lines::first_line;
 pub use memory::{Feed, Sheet};
 pub use plain::{Plain, plain_line};
 pub use reader::{Heard, read_event, read_line};

@@ -1,5 +1,5 @@
 use Rattle.std.proofs.Common.{refl}
-use Rattle.snl_same.specs.Words.{behind, word}
+use Rattle.snl_heard.specs.Words.{behind, word}
 use Rattle.snl_same.proofs.laws.examples_of_words.Goals as goal
 
 pub returns : goal.returns

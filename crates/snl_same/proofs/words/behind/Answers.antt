@@ -1,8 +1,0 @@
-use Rattle.snl_same.proofs.WordLaws.{behind-cut, behind-uncut}
-use Rattle.snl_same.proofs.words.behind.Goals as goal
-
-pub returns-in-Some : goal.returns-in-Some
-returns-in-Some c = behind-cut c.args.text.now _ _ c.in-Some.ensures.cut c.in-Some.ensures.first
-
-pub returns-in-None : goal.returns-in-None
-returns-in-None c = behind-uncut c.args.text.now c.in-None.ensures.none
