@@ -68,11 +68,6 @@ text-one : (line : List ℕ) → text_of_lines (line ∷ []) ≡ line ++ 10 ∷ 
 unfolding text_of_lines
 text-one line = refl
 
--- none as a text
-text-none : text_of_lines [] ≡ []
-unfolding text_of_lines
-text-none = refl
-
 -- a line that is no note is none of the requirement
 no-watch : (line : List ℕ) → is_note line ≡ false → is_watch line ≡ false
 no-watch [] plain = refl

@@ -243,10 +243,6 @@ idle-left s none = ap (λ (xs : List ℕ). drop s.next xs) none ∙ drop-nil s.n
 pub asks-plan : (times : List ℕ) (s t : Subject) → IsUntold s → t.moments.items ≡ s.moments.items → left_of t ≡ times → planned t ≡ map At times
 asks-plan times s t none moments left = (λ j. kinds (moments j) ++ map At (left j)) ∙ (λ j. kinds (none.moments j) ++ map At times)
 
--- a walk that asks for times
-pub asks-times : (times : List ℕ) (s t : Subject) → IsUntold s → t.sort ≡ Times → t.next ≡ s.next → t.times.items ≡ s.times.items ++ times → AsksFor (Some times) t
-asks-times times s t none sort next added = (sort, (λ j. drop (next j) (added j)) ∙ (λ j. drop (none.next j) (none.times j ++ times)))
-
 -- it is told so where the walk closed
 pub told-by : (asked : Option (List ℕ)) (close : Option Close) (s t u : Subject) → IsUntold s → t.moments.items ≡ s.moments.items → AsksFor asked t → TellsPlan close t u →
     IfSome asked (λ times. AreTold times close (kinds u.moments.items))

@@ -163,8 +163,3 @@ led-seen lines m k a b c d o p q r begins ends goes comes led =
     (subst (λ (z : List ℕ). Led lines m k a z q r) ends
     (subst (λ (z : Option Ending). Led lines m k a b z r) (sym goes)
     (subst (λ (z : Option Ending). Led lines m k a b o z) comes led)))
-
--- one that is stopped was ended
-pub stopped-some : (o : Option Ending) → IsSome (stopped o)
-stopped-some None = refl
-stopped-some (Some e) = refl

@@ -6,7 +6,7 @@ use Rattle.snl_outline.specs.Names.{Names}
 use Rattle.snl_machine.specs.declared.machine.Machine.{Machine}
 use Rattle.snl_observer.proofs.HeardLaws.{all-append, all-none, all-one, among-back, among-front, before-append, halts-none}
 use Rattle.snl_observer.proofs.LineLaws.{led-more, led-none, led-same, led-then}
-use Rattle.snl_observer.specs.Telling.{Adds, AreBefore, EndsIn, Halts, Passes, Tells, comes_at}
+use Rattle.snl_observer.specs.Telling.{Adds, EndsIn, Halts, Passes, Tells, comes_at}
 use Rattle.snl_observer.specs.Watching.{Led}
 use Rattle.snl_observer.specs.declared.closes.Ending.{Ending}
 use Rattle.snl_output.specs.TraceLines.{whole_lines}
@@ -49,10 +49,6 @@ part-on old mid new text left line rest part is written = record {
   are = part.are ∙ ap (λ z. part.front ++ z) (is ∙ sym (append_assoc line (10 ∷ []) rest)) ∙ sym (append_assoc part.front (line ++ 10 ∷ []) rest);
   is = written ∙ ap (λ z. z ++ (line ++ 10 ∷ [])) part.is ∙ append_assoc old part.front (line ++ 10 ∷ []);
 }
-
--- and so far
-pub part-adds : (old new text left : List ℕ) → IsPart old new text left → Adds old new text
-part-adds old new text left part = record { front = part.front; rest = left; are = part.are; is = part.is }
 
 -- nothing is left
 pub part-all : (old new text left : List ℕ) → IsPart old new text left → left ≡ [] → new ≡ old ++ text
@@ -147,13 +143,6 @@ among-ends sets ms line text m k a b o p wrote now at =
     led-same (heard_all sets at.passes.lines ++ among sets ms line (whole_lines at.left)) (among sets ms line (whole_lines text)) m k a b o p
     (sym (ap (among sets ms line) at.passes.whole ∙ among-front sets ms line at.passes.lines (whole_lines at.left) at.passes.before))
     (led-more (heard_all sets at.passes.lines) (among sets ms line (whole_lines at.left)) m k a b o p at.ends at.passes.led)
-
--- the line of the trace behind the lines in front of it, and before the others
-among-parts : (sets : List Names) (ms : ℕ) (line text left : List ℕ) (front back : List (List ℕ)) → whole_lines text ≡ front ++ whole_lines left → AreBefore (Some ms) front →
-    Halts (Some ms) (whole_lines left) → whole_lines left ≡ back → among sets ms line (whole_lines text) ≡ heard_all sets front ++ (line ∷ heard_all sets back)
-among-parts sets ms line text left front back whole before halts are =
-    ap (among sets ms line) whole ∙ among-front sets ms line front (whole_lines left) before
-    ∙ ap (λ z. heard_all sets front ++ z) (among-back sets ms line (whole_lines left) halts ∙ ap (λ z. line ∷ heard_all sets z) are)
 
 -- all lines were heard of, where the run went on to the last one,
 pub rest-whole : (sets : List Names) (text left : List ℕ) (m k : Machine) (a b : List ℕ) (o p : Option Ending) (wrote now : List ℕ) → Tells sets None text left m k a b o p wrote now →

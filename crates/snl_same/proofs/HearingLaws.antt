@@ -1,13 +1,12 @@
 -- Laws of what a plain line tells both programs.
-use Rattle.std.proofs.Common.{◌≡◌, ◌∙◌, ℕ, ℤ, Bool, true, List, Option, None, Some, Result, Ok, IfSome, refl, sym, ap}
+use Rattle.std.proofs.Common.{◌≡◌, ◌∙◌, ℕ, List, Option, None, Some, Ok, IfSome, refl, ap}
 use Rattle.snl_machine.specs.declared.machine.Machine.{Machine}
 use Rattle.std.specs.Option.{option_map}
 use Rattle.snl_same.specs.Hearing.{Tells, with_number}
 use Rattle.snl_same.specs.declared.plain_lines.Numbers.{Numbers}
 use Rattle.snl_schedule.specs.declared.events.Event.{Event}
 use Rattle.snl_schedule.specs.declared.events.Event.TheVariants as event
-use Rattle.snl_trace.specs.Grammar.{◌>>=◌, Told, Tick, Val, event_at, if_fits, read_of, told_of, val_at, val_of}
-use Rattle.snl_trace.specs.declared.trace_faults.TraceFault.{TraceFault}
+use Rattle.snl_trace.specs.Grammar.{Tick, Val}
 
 -- a number takes the place of another one
 pub renumbered : (n k : ℕ) (room : Event) → with_number n (with_number k room) ≡ with_number n room
@@ -23,20 +22,6 @@ pub tells-on : (room next : Event) (ms : ℕ) (old new : ℕ) (m : Machine) (lin
     Tells room ms (Some new) m line → Tells next ms (Some new) m line
 tells-on room next ms old new m line is tells =
     ap (λ (e : Event). Ok (Some (ms, e))) (ap (λ (e : Event). with_number new e) is ∙ renumbered new old room) ∙ tells
-
--- a line that tells values of a channel tells a machine the event of these, where they fit
-pub known-values : (channel : List ℕ → Option ℕ) (fits : Event → Bool) (last ms n : ℕ) (line name : List ℕ) (values : List ℤ) →
-    told_of last line ≡ Ok (Some (ms, Val name values)) → channel name ≡ Some n → fits (val_of n values) ≡ true →
-    Ok (Some (ms, val_of n values)) ≡ read_of channel fits last line
-known-values channel fits last ms n line name values told named fit =
-    sym (ap (λ (r : Result (Option (ℕ × Told)) TraceFault). r >>= event_at channel fits) told
-    ∙ ap (λ (o : Option ℕ). val_at fits o values >>= λ (e : Event). Ok (Some (ms, e))) named
-    ∙ ap (λ (b : Bool). if_fits b (val_of n values) >>= λ (e : Event). Ok (Some (ms, e))) fit)
-
--- and one that tells that time has passed
-pub known-tick : (channel : List ℕ → Option ℕ) (fits : Event → Bool) (last ms : ℕ) (line : List ℕ) → told_of last line ≡ Ok (Some (ms, Tick)) →
-    Ok (Some (ms, event.Tick)) ≡ read_of channel fits last line
-known-tick channel fits last ms line told = sym (ap (λ (r : Result (Option (ℕ × Told)) TraceFault). r >>= event_at channel fits) told)
 
 -- what a line tells the new program it tells behind the old one, too
 pub tells-known : (room next : Event) (ms : ℕ) (channel : Option Numbers) (m : Machine) (line : List ℕ) →

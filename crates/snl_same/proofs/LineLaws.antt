@@ -1,5 +1,5 @@
 -- Laws of what a line did.
-use Rattle.std.proofs.Common.{◌≡◌, ◌∙◌, ℕ, false, List, [], Option, None, Some, Result, Ok, Err, IfOk, unwrap_or, refl, ap, sym, subst}
+use Rattle.std.proofs.Common.{◌≡◌, ◌∙◌, ℕ, false, List, [], Option, None, Some, Result, Ok, Err, IfOk, unwrap_or, ap, sym, subst}
 use Rattle.snl_meaning.specs.Keeping.{world_after}
 use Rattle.snl_meaning.specs.Ran.{Ran}
 use Rattle.snl_meaning.specs.World.{World}
@@ -7,7 +7,6 @@ use Rattle.snl_output.specs.Devices.{told_more}
 use Rattle.snl_output.specs.Does.{Gave, text_of}
 use Rattle.snl_same.specs.Lines.{AreApart, AreApartAt, Did, end_in}
 use Rattle.snl_same.specs.declared.differences.Apart.{Apart}
-use Rattle.snl_same.specs.declared.differences.Apart.TheVariants.{Ends, Lines}
 use Rattle.snl_same.specs.declared.filters.Filter.{Filter}
 use Rattle.snl_trace.specs.Ends.{ends_by_sink}
 use Rattle.snl_trace.specs.RunOver.{LineDoes}
@@ -48,11 +47,6 @@ apart-at f x y d e w v s t apart old new are =
     (subst (λ (z : List ℕ). AreApart f s z (end_in x) (end_in y) apart) (sym new.text_is)
     (subst (λ (z : Option End). AreApart f s t z (end_in y) apart) (sym old.end_is)
     (subst (λ (z : Option End). AreApart f s t d z apart) (sym new.end_is) are)))
-
--- the two lines that differ are known, whatever the ends are
-pub apart-any : (f : Filter) (s t : List ℕ) (apart : Apart) (d e : Option End) → AreApart f s t None None (Some apart) → AreApart f s t d e (Some apart)
-apart-any f s t (Lines line other) d e are = are
-apart-any f s t Ends d e are = absurd (are.1 refl)
 
 -- what holds of a value that was given, holds of what follows from it
 pub if-ok : {A E : Type 0} (result : Result A E) (P Q : A → Type 0) → ((value : A) → P value → Q value) → IfOk result P → IfOk result Q

@@ -36,10 +36,6 @@ apart-longer a p w gave ended are empty over some = λ more rest follows is.
     let same : length gave ≡ length (a ++ w) = ap length are in
     absurd (omega (arith, none, size, same, some, empty, length-append (a ++ p) more, length-append a p, length-append a w, length-append gave rest))
 
--- what is apart stays so, however the output goes on
-pub apart-more : (a p gave : List ℕ) (ended : Bool) → IsApart a gave ended → IsApart (a ++ p) gave ended
-apart-more a p gave ended apart = λ more rest follows is. apart (p ++ more) rest follows (sym (append_assoc a p more) ∙ is)
-
 -- an output that is apart is not what the file has
 pub settled-apart : (a gave : List ℕ) (ended broke : Bool) → IsApart a gave ended → IsSettled Apart a gave ended broke
 settled-apart a gave ended broke apart = λ rest follows is. apart [] rest follows (append-nil a ∙ is)

@@ -32,13 +32,7 @@ program-first names stem name fits none = (
       (All-weaker (λ other. Fits other stem → ⊥) (λ other. Fits other stem → length other ≤ length name) (λ other unfit it. absurd (unfit it)) names none) (λ it. omega arith),
 )
 
--- a name that is no longer than the one that was found
-pub program-kept : (names : List (List ℕ)) (stem name best : List ℕ) → length name ≤ length best → IsProgramOf names stem (Some best) →
-    IsProgramOf (names ++ name ∷ []) stem (Some best)
-program-kept names stem name best shorter (in', fits, most) =
-    (Contains-append_left names (name ∷ []) best in', fits, All-push (λ other. Fits other stem → length other ≤ length best) names name most (λ it. shorter))
-
--- a longer one
+-- a name that is longer than the one that was found
 pub program-longer : (names : List (List ℕ)) (stem name best : List ℕ) → Fits name stem → length best < length name → IsProgramOf names stem (Some best) →
     IsProgramOf (names ++ name ∷ []) stem (Some name)
 program-longer names stem name best fits longer (in', before, most) = (

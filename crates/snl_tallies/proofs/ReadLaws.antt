@@ -2,7 +2,7 @@
 use Rattle.std.proofs.Common.{◌≡◌, ◌≢◌, ◌<◌, ◌≤◌, ◌+◌, ◌^◌, ◌∙◌, ℕ, List, [], ◌∷◌, ◌++◌, All, ap, append_assoc, arith, drop, get_or, length, refl, subst, sym, take}
 use Rattle.std.proofs.lemmas.List.{append-nil, drop_more, length-append, length-drop, length-map, length-take-le, map-append, map_more, take-append-drop, take_all}
 use Rattle.std.proofs.lemmas.List.Elements.{All-drop}
-use Rattle.snl_tallies.specs.Counts.{IsFileOf, IsNoFileOf, counts_of, line_of, names_of, text_of}
+use Rattle.snl_tallies.specs.Counts.{IsNoFileOf, counts_of, line_of, names_of, text_of}
 use Rattle.snl_tallies.specs.declared.tally.Tally.{Tally}
 use Rattle.snl_tallies.proofs.TextLaws.{IsSmall, no-line, rest-once, text-more}
 
@@ -56,19 +56,7 @@ read-no-more all i a ns text rest below is long small before none = λ cs file.
     let cut = length-drop (length ns) cs in
     no-line name more (drop (length ns) cs) rest (omega (arith, size, sizes, cut, each)) (All-drop IsSmall (length ns) cs file.small) none left
 
--- a text of which all lines were read is the file of what was read,
-pub read-whole : (all : List Tally) (i : ℕ) (ns text rest : List ℕ) → i ≤ length all → length all ≤ i → length ns ≡ i → All IsSmall ns →
-    text ≡ text_of (names_of (take i all)) ns ++ rest → rest ≡ [] → IsFileOf [] (names_of all) ns text
-read-whole all i ns text rest low high long small before none =
-    let names = names_of (take i all) in
-    let same : names ≡ names_of all = ap names_of (take_all i all high) in
-    record {
-      text_is = before ∙ ap (λ l. text_of names ns ++ l) none ∙ append-nil (text_of names ns) ∙ ap (λ k. text_of k ns) same;
-      each = long ∙ sym (names-taken all i low) ∙ ap length same;
-      small = small;
-    }
-
--- and no file where something follows
+-- a text is no file where something follows the lines that were read
 pub read-too-much : (all : List Tally) (i : ℕ) (ns text rest : List ℕ) → i ≤ length all → length all ≤ i → length ns ≡ i → All IsSmall ns →
     text ≡ text_of (names_of (take i all)) ns ++ rest → rest ≢ [] → IsNoFileOf [] (names_of all) text
 read-too-much all i ns text rest low high long small before some = λ cs file.

@@ -12,7 +12,6 @@ use Rattle.std.proofs.lemmas.List.Sums.{fold-append}
 use Rattle.std.proofs.lemmas.List.Folds.{list_all-append}
 use Rattle.snl_watch.specs.Counts.{Cut, Reading, after, behind_digits, count_at, count_in, counted, counted_at, counts_of, cut, cut_on, kept, lines_showing, no_cut, place_of, reading_of, step, with_byte, zeros}
 use Rattle.snl_output.specs.Devices.{told_more}
-use Rattle.snl_watch.specs.Folding.{without_time}
 use Rattle.snl_watch.specs.Folds.{ends_line, is_in_line}
 use Rattle.snl_watch.specs.Laws.{CountsGoOn, CountsAreExact}
 
@@ -225,8 +224,3 @@ line-ends keys room begun (b ∷ c ∷ bs) counts ends one =
 pub line-counted : (keys : List (List ℕ)) (room : ℕ) (line counts : List ℕ) → ends_line line ≡ true → is_in_line line ≡ true →
     after keys room (true, [], counts) line ≡ (true, [], counted keys counts (take room (behind_digits (take (length line - 1) line))))
 line-counted keys room line counts ends one = (λ j. after keys room (true, sym (take-nil room) j, counts) line) ∙ line-ends keys room [] line counts ends one
-
--- the two names of what follows digits
-pub without-digits : (xs : List ℕ) → without_time xs ≡ behind_digits xs
-without-digits [] = refl
-without-digits (x ∷ xs) = ap (λ rest. if is_ascii_digit x then rest else x ∷ xs) (without-digits xs)
