@@ -3,7 +3,7 @@
 ghost use Rattle.std.specs.Prelude.{◌≡◌, [], Some, IfOk};
 
 use snc::{Sink, SinkFault};
-use snl_output::{Room, Short};
+use snl_output::{Format, Room, Short, Text};
 use snl_past::Past;
 use std::alloc::{AllocError, Global};
 use std::io::{self, Stdout, Write};
@@ -167,6 +167,17 @@ impl Sink for Lines {
     #[inline(always)]
     fn hold_timed(&mut self, ms: u64, text: &[u8]) -> bool {
         !self.is_stuck && self.room.hold_timed(ms, text)
+    }
+
+    #[inline(always)]
+    fn hold_print<'t>(
+        &mut self,
+        ms: u64,
+        text: &'t Text,
+        format: &'t Format,
+        numbers: &'t [i64],
+    ) -> bool {
+        !self.is_stuck && self.room.hold_print(ms, text, format, numbers)
     }
 
     fn wait(&mut self) {

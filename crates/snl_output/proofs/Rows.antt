@@ -32,3 +32,15 @@ row-from new piece wide start k short within is laid =
     let same : k ≡ 0 + k = omega arith in
     ap (λ n. take n new) same ∙ row-laid new new piece 0 k (omega arith) (omega (arith, long)) laid ∙ ap (take k) all
     ∙ sym (take-append-le k (take 24 left) (drop 24 left) (omega (arith, taken))) ∙ ap (take k) (take-append-drop 24 left)
+
+-- digits that end at the 40th byte of a wide row were written over the bytes from a place on, with what stands behind them
+pub digits-laid : (old new piece digits behind left : List ℕ) (at start : ℕ) → at ≤ length old → 24 ≤ length left → 16 ≤ start → piece ≡ take (start + 24 - start) left →
+    left ≡ digits ++ behind → start + length digits ≡ 40 → take (at + length piece) new ≡ take at old ++ piece → take (at + (40 - start)) new ≡ take at old ++ digits
+digits-laid old new piece digits behind left at start within room far is written ends laid =
+    let row : start + 24 - start ≡ 24 = omega arith in
+    let all : piece ≡ take 24 left = is ∙ ap (λ n. take n left) row in
+    let taken : length (take 24 left) ≡ 24 = length-take-le 24 left room in
+    let long : length piece ≡ 24 = ap length all ∙ taken in
+    let front = ap (take (40 - start)) all ∙ sym (take-append-le (40 - start) (take 24 left) (drop 24 left) (omega (arith, taken, far)))
+    ∙ ap (take (40 - start)) (take-append-drop 24 left) ∙ digits-in digits behind left start written ends in
+    row-laid old new piece at (40 - start) within (omega (arith, long, far)) laid ∙ ap (λ t. take at old ++ t) front

@@ -164,7 +164,7 @@ impl Line {
 }
 
 /// Hands a piece to a sink until it has taken all of it, however few bytes it takes a call.
-fn write_whole<S: Sink>(piece: &[u8], sink: &mut S) -> Result<(), SinkFault>
+pub(crate) fn write_whole<S: Sink>(piece: &[u8], sink: &mut S) -> Result<(), SinkFault>
     requires { S.failures sink.old < 2 ^ 64 - 1 }
     ensures told { Wrote result piece.now (S.told sink.old) (S.told sink.new) }
     ensures failures { S.failures sink.new ≡ counted (is_err result) (S.failures sink.old) }

@@ -1,20 +1,18 @@
-//! What stands behind the time in the line of a `printf`, put together in one go: each part of it is laid over bytes, up to a place
-//! from which the next one goes on, where there is room for that. A short text takes the room of a row.
+//! The line of a `printf`, put together in one go: each part of it is laid over bytes, up to a place from which the next one goes on,
+//! where there is room for that. A short text takes the room of a row.
 
-ghost use Rattle.std.specs.Prelude.{◌≡◌, ◌≤◌, ◌++◌, [], codes, drop, length, take, IfSome, if◌then◌else◌};
+ghost use Rattle.std.specs.Prelude.{◌≡◌, ◌+◌, ◌≤◌, ◌++◌, [], decimal, drop, length, take, IfNone, IfSome, if◌then◌else◌};
 ghost use Rattle.std.specs.Fmt.{signed_decimal};
-ghost use Rattle.snl_output.specs.Formats.{filled};
+ghost use Rattle.snl_output.specs.Formats.{filled, shown_in};
+ghost use Rattle.snl_output.specs.Spelled.{spelled_in};
 ghost use Rattle.snl_output.specs.Texts.{short_of, text_in};
 ghost use Rattle.snl_meaning.specs.Printing as spec;
 
 use crate::formats::{Format, Part};
-use crate::texts::{ROW, Short, Text, place};
+use crate::texts::{ROW, Short, Text, place, place_natural};
 
-/// What stands in front of the name of the state set.
-const PRINT: [u8; 7] = *b" print ";
-
-/// Lays a text.
-#[inline(always)]
+/// Lays what is behind the front of a text, which is rare.
+#[inline(never)]
 fn lay_slice(bytes: &mut [u8], at: usize, piece: &[u8]) -> Option<usize>
     requires { at ≤ length bytes.old }
     ensures text { IfSome result (λ end. take end bytes.new ≡ take at bytes.old ++ piece.now) }
@@ -43,6 +41,20 @@ fn lay_short(bytes: &mut [u8], at: usize, short: Short) -> Option<usize>
     Some(at + short.len())
 }
 
+/// Lays the digits of a natural number.
+#[inline(always)]
+fn lay_natural(bytes: &mut [u8], at: usize, number: u64) -> Option<usize>
+    requires { at ≤ length bytes.old }
+    ensures text { IfSome result (λ end. take end bytes.new ≡ take at bytes.old ++ decimal number) }
+    ensures within { IfSome result (λ end. end ≤ length bytes.new) }
+    ensures length { length bytes.new ≡ length bytes.old }
+{
+    if bytes.len() - at < ROW {
+        return None;
+    }
+    Some(at + place_natural(bytes, at, number))
+}
+
 /// Lays a text, of which mostly nothing is behind its front.
 #[inline(always)]
 fn lay_text(bytes: &mut [u8], at: usize, text: &Text) -> Option<usize>
@@ -69,7 +81,7 @@ fn lay_number(bytes: &mut [u8], at: usize, number: i64) -> Option<usize>
     ensures length { length bytes.new ≡ length bytes.old }
 {
     if number >= 0 {
-        return lay_short(bytes, at, Short::natural(number as u64));
+        return lay_natural(bytes, at, number as u64);
     }
     lay_short(bytes, at, Short::below_zero(number))
 }
@@ -124,40 +136,48 @@ fn lay_parts<'t>(
     Some(end)
 }
 
-/// Lays what stands in front of the text of a format, at the front of the bytes.
-#[inline(always)]
-fn lay_front(bytes: &mut [u8], state_set: &[u8]) -> Option<usize>
-    ensures text { IfSome result (λ end. take end bytes.new
-        ≡ codes " print " ++ (state_set.now ++ codes " ")) }
-    ensures within { IfSome result (λ end. end ≤ length bytes.new) }
-    ensures length { length bytes.new ≡ length bytes.old }
-{
-    let room = bytes.len();
-    if room < 8 || state_set.len() > room - 8 {
-        return None;
-    }
-    place(bytes, 0, &PRINT);
-    place(bytes, 7, state_set);
-    let end = 7 + state_set.len();
-    place(bytes, end, b" ");
-    Some(end + 1)
-}
-
-/// Lays all of it: its front, the parts of the format and what is behind them.
+/// Lays all of it at the front of the bytes: the digits of its time, the text behind them, the parts of the format and what is behind
+/// these.
 #[inline(always)]
 pub(crate) fn lay_print<'t>(
     bytes: &mut [u8],
-    state_set: &'t [u8],
+    digits: Short,
+    text: &'t Text,
     format: &'t Format,
     numbers: &'t [i64],
 ) -> Option<usize>
-    ensures text { IfSome result (λ end. take end bytes.new
-        ≡ codes " print " ++ (state_set.now ++ codes " ")
-        ++ (filled format.now.parts.items numbers.now [] ++ text_in format.now.rest)) }
+    ensures text { IfSome result (λ end. take end bytes.new ≡ short_of digits
+        ++ (text_in text.now ++ shown_in (spelled_in format.now) numbers.now)) }
     ensures within { IfSome result (λ end. end ≤ length bytes.new) }
     ensures length { length bytes.new ≡ length bytes.old }
 {
-    let front = lay_front(bytes, state_set)?;
+    let time = lay_short(bytes, 0, digits)?;
+    let front = lay_text(bytes, time, text)?;
     let parts = lay_parts(bytes, front, format.parts.as_slice(), numbers)?;
-    lay_text(bytes, parts, &format.rest)
+    let end = lay_text(bytes, parts, &format.rest)?;
+    Some(end)
+}
+
+/// The same from a place on; answers how many bytes it is.
+#[inline(always)]
+pub(crate) fn lay_print_at<'t>(
+    bytes: &mut [u8],
+    at: usize,
+    digits: Short,
+    text: &'t Text,
+    format: &'t Format,
+    numbers: &'t [i64],
+) -> Option<usize>
+    requires { at ≤ length bytes.old }
+    ensures text { IfSome result (λ count. take (at + count) bytes.new ≡ take at bytes.old
+        ++ (short_of digits
+        ++ (text_in text.now ++ shown_in (spelled_in format.now) numbers.now))) }
+    ensures within { IfSome result (λ count. at + count ≤ length bytes.new) }
+    ensures kept { IfNone result (take at bytes.new ≡ take at bytes.old) }
+    ensures length { length bytes.new ≡ length bytes.old }
+{
+    match lay_print(&mut bytes[at..], digits, text, format, numbers) {
+        Some(count) => Some(count),
+        None => None,
+    }
 }

@@ -18,7 +18,8 @@ pub use faults::{Stop, fault_text};
 pub use formats::{Format, Part};
 pub use held::Line;
 pub use lines::{
-    add_number, add_put, go_text, write_exit, write_fault, write_go, write_start, write_timed,
+    add_number, add_put, go_text, print_text, write_exit, write_fault, write_go, write_start,
+    write_timed,
 };
 pub use pieces::{push_all, push_counted, push_told};
 pub use printing::{write_blank, write_print};

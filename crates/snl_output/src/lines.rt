@@ -5,11 +5,12 @@ ghost use Rattle.std.specs.Fmt.{signed_decimal};
 ghost use Rattle.snl_output.specs.Devices.{counted, Wrote};
 ghost use Rattle.snl_output.specs.Held.{Adds};
 ghost use Rattle.snl_output.specs.Lines.{joined, start_line, go_line, go_rest, exit_line, fault_line, put_front, space};
+ghost use Rattle.snl_output.specs.Texts.{print_rest, text_in};
 
 use crate::held::Line;
 use crate::pieces::push_all;
 use crate::sinks::{Sink, SinkFault};
-use crate::texts::Short;
+use crate::texts::{Short, Text};
 use itoa::Buffer;
 use std::alloc::{AllocError, Global};
 
@@ -55,6 +56,14 @@ pub fn go_text<'t>(
     ensures { IfOk result (λ text. text.items ≡ go_rest state_set.now from.now to.now) }
 {
     join(alloc, &[b" go ", state_set, b" ", from, b" ", to, b"\n"])
+}
+
+/// What stands between the time and the text of a `printf`: ` print STATE-SET `. The only error is that memory ends.
+pub fn print_text<'t>(alloc: Global, state_set: &'t [u8]) -> Result<Text, AllocError>
+    ensures { IfOk result (λ text. text_in text ≡ print_rest state_set.now) }
+{
+    let text = join(alloc, &[b" print ", state_set, b" "])?;
+    Text::of(alloc, text.as_slice())
 }
 
 /// `MS` and the text that follows it, to the end of the line.

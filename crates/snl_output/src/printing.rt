@@ -1,41 +1,72 @@
 //! The line of a `printf`: its format with the numbers in it.
 
-ghost use Rattle.std.specs.Prelude.{◌≡◌, ◌-◌, ◌^◌, ◌<◌, ◌++◌, [], drop, is_err, IfOk, if◌then◌else◌};
+ghost use Rattle.std.specs.Prelude.{◌≡◌, ◌-◌, ◌^◌, ◌<◌, ◌++◌, [], drop, is_err, IfOk, IfSome, if◌then◌else◌};
 ghost use Rattle.snl_output.specs.Devices.{counted, Wrote};
 ghost use Rattle.snl_output.specs.Formats.{filled};
 ghost use Rattle.snl_output.specs.Spelled.{spelled_in};
 ghost use Rattle.snl_output.specs.Held.{Adds};
 ghost use Rattle.snl_output.specs.Lines.{print_front};
+ghost use Rattle.snl_output.specs.Texts.{print_rest, text_in};
 ghost use Rattle.snl_meaning.specs.Printing as spec;
 
 use crate::formats::{Format, Part};
-use crate::held::Line;
+use crate::held::{Line, write_whole};
 use crate::laying::lay_print;
-use crate::lines::write_timed;
 use crate::sinks::{Sink, SinkFault};
-use crate::texts::Short;
+use crate::texts::{Short, Text};
 
-/// How many bytes what stands behind the time may have, to be put together in one go. Most lines have fewer.
-const LAID: usize = 128;
+/// How many bytes a line may have, to be put together in one go where the sink holds no lines. Most have fewer.
+const LAID: usize = 152;
 
-/// `MS print STATE-SET TEXT`, where the text is that of a format and of the numbers of its conversions in their order.
+/// `MS print STATE-SET TEXT`, where the text is that of a format and of the numbers of its conversions in their order. What stands between
+/// the time and the text may have been put together before.
 #[inline(always)]
 pub fn write_print<'t, S: Sink>(
     sink: &mut S,
     ms: u64,
     state_set: &'t [u8],
+    front: Option<&'t Text>,
     format: &'t Format,
     numbers: &'t [i64],
 ) -> Result<(), SinkFault>
-    requires { S.failures sink.old < 2 ^ 64 - 1 }
+    requires front { IfSome front (λ text. text_in text.now ≡ print_rest state_set.now) }
+    requires failures { S.failures sink.old < 2 ^ 64 - 1 }
+    ensures told { Wrote result
+        (spec.printed_line ms state_set.now (spelled_in format.now) numbers.now)
+        (S.told sink.old) (S.told sink.new) }
+    ensures failures { S.failures sink.new ≡ counted (is_err result) (S.failures sink.old) }
+{
+    match front {
+        Some(text) => {
+            if sink.hold_print(ms, text, format, numbers) {
+                return Ok(());
+            }
+            write_laid(sink, ms, state_set, text, format, numbers)
+        }
+        None => write_long(sink, ms, state_set, format, numbers),
+    }
+}
+
+/// The same where the sink did not hold it.
+#[inline(never)]
+fn write_laid<'t, S: Sink>(
+    sink: &mut S,
+    ms: u64,
+    state_set: &'t [u8],
+    text: &'t Text,
+    format: &'t Format,
+    numbers: &'t [i64],
+) -> Result<(), SinkFault>
+    requires front { text_in text.now ≡ print_rest state_set.now }
+    requires failures { S.failures sink.old < 2 ^ 64 - 1 }
     ensures told { Wrote result
         (spec.printed_line ms state_set.now (spelled_in format.now) numbers.now)
         (S.told sink.old) (S.told sink.new) }
     ensures failures { S.failures sink.new ≡ counted (is_err result) (S.failures sink.old) }
 {
     let mut bytes = [0; LAID];
-    match lay_print(&mut bytes, state_set, format, numbers) {
-        Some(end) => write_timed(sink, ms, &bytes[..end]),
+    match lay_print(&mut bytes, Short::natural(ms), text, format, numbers) {
+        Some(end) => write_whole(&bytes[..end], sink),
         None => write_long(sink, ms, state_set, format, numbers),
     }
 }

@@ -1,9 +1,11 @@
 //! Room for lines, in which a sink holds what it does not hand on yet.
 
 ghost use Rattle.std.specs.Prelude.{◌≡◌, ◌+◌, ◌≤◌, ◌++◌, [], decimal, drop, length, take, IfOk, if◌then◌else◌};
-ghost use Rattle.snl_output.specs.Texts.{short_of};
+ghost use Rattle.snl_output.specs.Texts.{short_of, text_in};
 
-use crate::texts::{ROW, Short, place};
+use crate::formats::Format;
+use crate::laying::lay_print_at;
+use crate::texts::{ROW, Short, Text, place};
 use std::alloc::{AllocError, Global};
 
 /// How many bytes there is room for.
@@ -32,6 +34,8 @@ pub struct Room {
 
 impl Stamp {
     /// The digits of a time.
+    #[cold]
+    #[inline(never)]
     fn of(ms: u64) -> Self
         ensures { result.ms ≡ ms }
     {
@@ -43,7 +47,9 @@ impl Stamp {
 }
 
 impl Room {
+    ghost use Rattle.snl_output.specs.Formats.{shown_in};
     ghost use Rattle.snl_output.specs.Rooms.{held_in};
+    ghost use Rattle.snl_output.specs.Spelled.{spelled_in};
 
     /// Room with nothing in it. The only error is that memory ends.
     pub fn new(alloc: Global) -> Result<Self, AllocError>
@@ -116,6 +122,32 @@ impl Room {
         digits.lay_with(self.bytes.as_mut_slice(), at, text);
         self.count = at + digits.len() + text.len();
         true
+    }
+
+    /// The same of the digits of a time, a text behind them, and what a format writes with some numbers.
+    #[inline(always)]
+    pub fn hold_print<'t>(
+        &mut self,
+        ms: u64,
+        text: &'t Text,
+        format: &'t Format,
+        numbers: &'t [i64],
+    ) -> bool
+        ensures { held_in self.new ≡ (if result then held_in self.old
+            ++ (decimal ms ++ (text_in text.now ++ shown_in (spelled_in format.now) numbers.now))
+            else held_in self.old) }
+    {
+        self.set_time(ms);
+        let at = self.count;
+        let digits = self.stamp.digits;
+        let bytes = self.bytes.as_mut_slice();
+        match lay_print_at(bytes, at, digits, text, format, numbers) {
+            Some(count) => {
+                self.count = at + count;
+                true
+            }
+            None => false,
+        }
     }
 
     /// For how many more bytes there is room.

@@ -1,6 +1,7 @@
 //! `Sink`: where the lines of a run go, and what it hears beside them.
 
-use crate::texts::Short;
+use crate::formats::Format;
+use crate::texts::{Short, Text};
 use thiserror::Error;
 
 /// A sink did not take what it was given.
@@ -84,7 +85,9 @@ pub struct Put {
 pub trait Sink {
     ghost use Rattle.std.specs.Prelude.{◌≡◌, ◌+◌, ◌-◌, ◌++◌, ◌^◌, ◌<◌, ◌≤◌, ℕ, List, Option, IfOk, OnErr, decimal, length, take, if◌then◌else◌};
     ghost use Rattle.snl_output.specs.Devices.{told_more, write_fails};
-    ghost use Rattle.snl_output.specs.Texts.{short_of};
+    ghost use Rattle.snl_output.specs.Formats.{shown_in};
+    ghost use Rattle.snl_output.specs.Spelled.{spelled_in};
+    ghost use Rattle.snl_output.specs.Texts.{short_of, text_in};
 
     ghost told: { Self → Option (List ℕ) };
 
@@ -127,6 +130,23 @@ pub trait Sink {
     fn hold_timed(&mut self, _ms: u64, _text: &[u8]) -> bool
         ensures told { told self.new ≡ (if result then told_more (told self.old)
             (decimal _ms ++ _text.now) else told self.old) }
+        ensures failures { failures self.new ≡ failures self.old }
+    {
+        false
+    }
+
+    /// The same of the digits of a time, a text behind them, and what a format writes with some numbers.
+    #[inline(always)]
+    fn hold_print<'t>(
+        &mut self,
+        _ms: u64,
+        _text: &'t Text,
+        _format: &'t Format,
+        _numbers: &'t [i64],
+    ) -> bool
+        ensures told { told self.new ≡ (if result then told_more (told self.old)
+            (decimal _ms ++ (text_in _text.now ++ shown_in (spelled_in _format.now) _numbers.now))
+            else told self.old) }
         ensures failures { failures self.new ≡ failures self.old }
     {
         false

@@ -41,6 +41,20 @@ pub(crate) fn place(bytes: &mut [u8], at: usize, piece: &[u8])
     bytes[at..at + piece.len()].copy_from_slice(piece);
 }
 
+/// Writes the digits of a natural number over the bytes from a place on, and others behind them; answers how many digits there are.
+#[inline(always)]
+pub(crate) fn place_natural(bytes: &mut [u8], at: usize, number: u64) -> usize
+    requires { at + 24 ≤ length bytes.old }
+    ensures front { take (at + result) bytes.new ≡ take at bytes.old ++ decimal number }
+    ensures short { result ≤ 24 }
+    ensures length { length bytes.new ≡ length bytes.old }
+{
+    let mut wide = [0; WIDE];
+    let start = write_digits(number, &mut wide, END);
+    place(bytes, at, &wide[start..start + ROW]);
+    END - start
+}
+
 impl Short {
     ghost use Rattle.std.specs.Fmt.{signed_decimal};
     ghost use Rattle.snl_output.specs.Texts.{short_of};

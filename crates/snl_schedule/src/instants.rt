@@ -58,6 +58,7 @@ fn round<S: Sink, L: Ledger>(
         let context = PieceContext {
             set,
             name: plan.name.as_slice(),
+            print: Some(plan.print()),
             program: &program.context,
         };
         let state_set = SetContext {

@@ -2,6 +2,7 @@
 
 ghost use Rattle.std.specs.Prelude.{◌≡◌, map, IfOk, IfSome};
 ghost use Rattle.snl_output.specs.Lines.{go_rest};
+ghost use Rattle.snl_output.specs.Texts.{print_rest, text_in};
 ghost use Rattle.snl_vm.specs.Rows.{numbers_of};
 ghost use Rattle.snl_schedule.specs.Goes.{kept_of, kept_views, name_at, target_name};
 ghost use Rattle.snl_schedule.specs.Linked.{HasRows};
@@ -9,6 +10,7 @@ ghost use Rattle.std.proofs.Props.{props};
 
 use crate::goes::Goes;
 use snl_meaning::Tied;
+use snl_output::{Text, print_text};
 use snl_vm::{CodeContext, FusedCode, PieceContext, Rows, Test};
 use std::alloc::{AllocError, Global};
 
@@ -83,6 +85,9 @@ pub struct SetPlan {
     pub states: Vec<StatePlan>,
     /// The lines of its transitions.
     goes: Goes,
+    /// What the lines of its `printf` have between the time and the text.
+    print: Text,
+    ghost named: { text_in print ≡ print_rest name.items } by { Prim.hlevel props },
     ghost kept: { kept_views goes ≡ kept_of name.items states.items } by { Prim.hlevel props },
 }
 
@@ -92,7 +97,20 @@ impl SetPlan {
         ensures { IfOk result (λ plan. (plan.name ≡ name) × (plan.states ≡ states)) }
     {
         let goes = Goes::new(alloc, name.as_slice(), states.as_slice())?;
-        Ok(SetPlan { name, states, goes })
+        let print = print_text(alloc, name.as_slice())?;
+        Ok(SetPlan {
+            name,
+            states,
+            goes,
+            print,
+        })
+    }
+
+    /// What the lines of its `printf` have between the time and the text.
+    pub fn print(&self) -> &Text
+        ensures { text_in result.now ≡ print_rest self.now.name.items }
+    {
+        &self.print
     }
 
     /// What follows the time in the line of a transition from a state, by the clause of a number: None where that clause does

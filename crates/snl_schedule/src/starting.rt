@@ -148,6 +148,7 @@ fn begin_sets<S: Sink, L: Ledger>(
         let context = PieceContext {
             set,
             name: plan.name.as_slice(),
+            print: Some(plan.print()),
             program: &program.context,
         };
         let state_set = SetContext {
@@ -181,6 +182,7 @@ fn own_context<'t>(program: &'t ProgramContext<'t>) -> PieceContext<'t>
     PieceContext {
         set: 0,
         name: first_name(program),
+        print: None,
         program: &program.context,
     }
 }

@@ -1,9 +1,10 @@
 //! What code runs with: its state set, the texts that its lines say, the functions that it calls, and the room for its operands.
 
 ghost use Rattle.std.specs.Prelude.{◌≡◌, [], IfNone, IfSome};
+ghost use Rattle.snl_output.specs.Texts.{print_rest, text_in};
 
 use snl_meaning::FunctionEntry;
-use snl_output::Format;
+use snl_output::{Format, Text};
 
 /// What all code of a program runs with. It is made once for an event, and the pieces that run then refer to it.
 #[derive(Clone, Copy)]
@@ -23,8 +24,11 @@ pub struct PieceContext<'t> {
     pub set: usize,
     /// The name of that state set.
     pub name: &'t [u8],
+    /// What the lines of its `printf` have between the time and the text, where that was put together before.
+    pub print: Option<&'t Text>,
     /// What all code of its program runs with.
     pub program: &'t CodeContext<'t>,
+    ghost named: { IfSome print (λ text. text_in text.now ≡ print_rest name.now) },
 }
 
 impl<'t> PieceContext<'t> {
