@@ -21,6 +21,7 @@ pub mod Taking
 pub mod Footprint
 pub mod Adding
 pub mod Adjusting
+pub mod Advancing
 pub mod Pushing
 pub mod Truths
 pub mod Pictured

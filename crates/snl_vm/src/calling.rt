@@ -27,6 +27,7 @@ pub struct CallSite {
 }
 
 /// Each value in order into its parameter. Those for which there is none are dropped.
+#[inline(always)]
 fn bind(
     parameters: &[Variable],
     line: usize,
@@ -47,6 +48,7 @@ fn bind(
 }
 
 /// How a call begins: a tick, and then the parameters.
+#[inline(always)]
 fn enter(
     parameters: &[Variable],
     line: usize,
@@ -63,6 +65,7 @@ fn enter(
 
 /// Calls a function from an address with the topmost operands: takes them away, keeps the address after this one, and answers where
 /// the code of the function begins.
+#[inline(always)]
 pub fn call(
     site: CallSite,
     pc: usize,

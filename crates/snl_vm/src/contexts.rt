@@ -2,6 +2,7 @@
 
 ghost use Rattle.std.specs.Prelude.{◌≡◌, [], IfNone, IfSome};
 ghost use Rattle.snl_output.specs.Texts.{print_rest, text_in};
+ghost use Rattle.std.proofs.Props.{props};
 
 use snl_meaning::FunctionEntry;
 use snl_output::{Format, Text};
@@ -28,7 +29,7 @@ pub struct PieceContext<'t> {
     pub print: Option<&'t Text>,
     /// What all code of its program runs with.
     pub program: &'t CodeContext<'t>,
-    ghost named: { IfSome print (λ text. text_in text.now ≡ print_rest name.now) },
+    ghost named: { IfSome print (λ text. text_in text.now ≡ print_rest name.now) } by { Prim.hlevel props },
 }
 
 impl<'t> PieceContext<'t> {

@@ -3,6 +3,7 @@
 
 mod all_homes;
 mod asking;
+mod blocks;
 mod calling;
 mod calls;
 mod conditions;
@@ -23,6 +24,7 @@ mod picturing;
 mod pieces;
 mod queues;
 mod quick;
+mod raising;
 mod reckoning;
 mod room;
 mod rows;
@@ -35,10 +37,11 @@ mod telling;
 mod words;
 
 pub use all_homes::AllHomes;
+pub use blocks::perform;
 pub use conditions::{holds_by, pass_by};
 pub use contexts::{CodeContext, PieceContext};
 pub use counting::Steps;
-pub use fused::{Fused, FusedCode};
+pub use fused::{Fused, FusedCode, Operation};
 pub use fusing::fuse;
 pub use homes::Homes;
 pub use linking::{fetch, fill, notice};
@@ -49,7 +52,7 @@ pub use parts::{Range, Test, is_empty_at, test_at};
 pub use queues::Queue;
 pub use room::words_with;
 pub use rows::Rows;
-pub use running::{evaluate, perform};
+pub use running::evaluate;
 pub use stores::{SetMemory, Store};
 pub use words::{
     Adjustment, Charge, adjust, checked_subscript, operate, operate_prefix, put_number, spend, wait,
