@@ -170,6 +170,11 @@ impl Sink for Lines {
     }
 
     #[inline(always)]
+    fn hold_line(&mut self, ms: u64, text: &Text) -> bool {
+        !self.is_stuck && self.room.hold_line(ms, text)
+    }
+
+    #[inline(always)]
     fn hold_print<'t>(
         &mut self,
         ms: u64,

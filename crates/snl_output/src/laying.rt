@@ -136,6 +136,34 @@ fn lay_parts<'t>(
     Some(end)
 }
 
+/// Lays the digits of a time at the front of the bytes, and a text behind them.
+#[inline(always)]
+fn lay_timed(bytes: &mut [u8], digits: Short, text: &Text) -> Option<usize>
+    ensures text { IfSome result (λ end. take end bytes.new
+        ≡ short_of digits ++ text_in text.now) }
+    ensures within { IfSome result (λ end. end ≤ length bytes.new) }
+    ensures length { length bytes.new ≡ length bytes.old }
+{
+    let time = lay_short(bytes, 0, digits)?;
+    lay_text(bytes, time, text)
+}
+
+/// The same from a place on; answers how many bytes it is.
+#[inline(always)]
+pub(crate) fn lay_timed_at(bytes: &mut [u8], at: usize, digits: Short, text: &Text) -> Option<usize>
+    requires { at ≤ length bytes.old }
+    ensures text { IfSome result (λ count. take (at + count) bytes.new ≡ take at bytes.old
+        ++ (short_of digits ++ text_in text.now)) }
+    ensures within { IfSome result (λ count. at + count ≤ length bytes.new) }
+    ensures kept { IfNone result (take at bytes.new ≡ take at bytes.old) }
+    ensures length { length bytes.new ≡ length bytes.old }
+{
+    match lay_timed(&mut bytes[at..], digits, text) {
+        Some(count) => Some(count),
+        None => None,
+    }
+}
+
 /// Lays all of it at the front of the bytes: the digits of its time, the text behind them, the parts of the format and what is behind
 /// these.
 #[inline(always)]
@@ -151,8 +179,7 @@ pub(crate) fn lay_print<'t>(
     ensures within { IfSome result (λ end. end ≤ length bytes.new) }
     ensures length { length bytes.new ≡ length bytes.old }
 {
-    let time = lay_short(bytes, 0, digits)?;
-    let front = lay_text(bytes, time, text)?;
+    let front = lay_timed(bytes, digits, text)?;
     let parts = lay_parts(bytes, front, format.parts.as_slice(), numbers)?;
     let end = lay_text(bytes, parts, &format.rest)?;
     Some(end)

@@ -52,10 +52,11 @@ pub fn go_text<'t>(
     state_set: &'t [u8],
     from: &'t [u8],
     to: &'t [u8],
-) -> Result<Vec<u8>, AllocError>
-    ensures { IfOk result (λ text. text.items ≡ go_rest state_set.now from.now to.now) }
+) -> Result<Text, AllocError>
+    ensures { IfOk result (λ text. text_in text ≡ go_rest state_set.now from.now to.now) }
 {
-    join(alloc, &[b" go ", state_set, b" ", from, b" ", to, b"\n"])
+    let text = join(alloc, &[b" go ", state_set, b" ", from, b" ", to, b"\n"])?;
+    Text::of(alloc, text.as_slice())
 }
 
 /// What stands between the time and the text of a `printf`: ` print STATE-SET `. The only error is that memory ends.
@@ -68,12 +69,13 @@ pub fn print_text<'t>(alloc: Global, state_set: &'t [u8]) -> Result<Text, AllocE
 
 /// `MS` and the text that follows it, to the end of the line.
 #[inline(always)]
-pub fn write_timed<S: Sink>(sink: &mut S, ms: u64, rest: &[u8]) -> Result<(), SinkFault>
+pub fn write_timed<S: Sink>(sink: &mut S, ms: u64, rest: &Text) -> Result<(), SinkFault>
     requires { S.failures sink.old < 2 ^ 64 - 1 }
-    ensures told { Wrote result (decimal ms ++ rest.now) (S.told sink.old) (S.told sink.new) }
+    ensures told { Wrote result (decimal ms ++ text_in rest.now) (S.told sink.old)
+        (S.told sink.new) }
     ensures failures { S.failures sink.new ≡ counted (is_err result) (S.failures sink.old) }
 {
-    if sink.hold_timed(ms, rest) {
+    if sink.hold_line(ms, rest) {
         return Ok(());
     }
     write_apart(sink, ms, rest)
@@ -81,15 +83,16 @@ pub fn write_timed<S: Sink>(sink: &mut S, ms: u64, rest: &[u8]) -> Result<(), Si
 
 /// The same where the sink did not hold both at once.
 #[inline(never)]
-fn write_apart<S: Sink>(sink: &mut S, ms: u64, rest: &[u8]) -> Result<(), SinkFault>
+fn write_apart<S: Sink>(sink: &mut S, ms: u64, rest: &Text) -> Result<(), SinkFault>
     requires { S.failures sink.old < 2 ^ 64 - 1 }
-    ensures told { Wrote result (decimal ms ++ rest.now) (S.told sink.old) (S.told sink.new) }
+    ensures told { Wrote result (decimal ms ++ text_in rest.now) (S.told sink.old)
+        (S.told sink.new) }
     ensures failures { S.failures sink.new ≡ counted (is_err result) (S.failures sink.old) }
 {
     let mut time = Buffer::new();
     let mut whole = Line::new();
     whole.add(time.format(ms).as_bytes(), sink)?;
-    whole.add(rest, sink)?;
+    whole.add_text(rest, sink)?;
     whole.send(sink)
 }
 

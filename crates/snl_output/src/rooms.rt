@@ -4,7 +4,7 @@ ghost use Rattle.std.specs.Prelude.{◌≡◌, ◌+◌, ◌≤◌, ◌++◌, [],
 ghost use Rattle.snl_output.specs.Texts.{short_of, text_in};
 
 use crate::formats::Format;
-use crate::laying::lay_print_at;
+use crate::laying::{lay_print_at, lay_timed_at};
 use crate::texts::{ROW, Short, Text, place};
 use std::alloc::{AllocError, Global};
 
@@ -122,6 +122,25 @@ impl Room {
         digits.lay_with(self.bytes.as_mut_slice(), at, text);
         self.count = at + digits.len() + text.len();
         true
+    }
+
+    /// The same of the digits of a time, and a text behind them whose front stands in a row.
+    #[inline(always)]
+    pub fn hold_line(&mut self, ms: u64, text: &Text) -> bool
+        ensures { held_in self.new ≡ (if result then held_in self.old
+            ++ (decimal ms ++ text_in text.now) else held_in self.old) }
+    {
+        self.set_time(ms);
+        let at = self.count;
+        let digits = self.stamp.digits;
+        let bytes = self.bytes.as_mut_slice();
+        match lay_timed_at(bytes, at, digits, text) {
+            Some(count) => {
+                self.count = at + count;
+                true
+            }
+            None => false,
+        }
     }
 
     /// The same of the digits of a time, a text behind them, and what a format writes with some numbers.

@@ -135,6 +135,16 @@ pub trait Sink {
         false
     }
 
+    /// The same of the digits of a time, and a text behind them whose front stands in a row.
+    #[inline(always)]
+    fn hold_line(&mut self, _ms: u64, _text: &Text) -> bool
+        ensures told { told self.new ≡ (if result then told_more (told self.old)
+            (decimal _ms ++ text_in _text.now) else told self.old) }
+        ensures failures { failures self.new ≡ failures self.old }
+    {
+        false
+    }
+
     /// The same of the digits of a time, a text behind them, and what a format writes with some numbers.
     #[inline(always)]
     fn hold_print<'t>(

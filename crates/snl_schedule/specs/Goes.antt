@@ -1,6 +1,7 @@
 -- The lines of transitions, but for their times: they are made before a run.
 use Rattle.std.specs.Prelude.{ℕ, Bool, not, ◌&&◌, nat_lt, List, [], length, Option, Some, None, map, option_map, codes, slice_get, slice_index_or, if◌then◌else◌}
 use Rattle.snl_output.specs.Lines.{go_rest}
+use Rattle.snl_output.specs.Texts.{text_in}
 use Rattle.snl_schedule.specs.declared.goes.Go.{Go}
 use Rattle.snl_schedule.specs.declared.goes.Goes.{Goes}
 use Rattle.snl_schedule.specs.declared.plans.ClausePlan.{ClausePlan}
@@ -43,7 +44,7 @@ kept_of set states = map (kept_in set states) states
 
 -- What the code keeps of a line,
 abbrev pub kept_view : Go → Kept
-kept_view g = (g.target, option_map (λ text. text.items) g.text)
+kept_view g = (g.target, option_map text_in g.text)
 
 -- and of all lines.
 abbrev pub kept_views : Goes → List (List Kept)

@@ -2,10 +2,11 @@
 
 ghost use Rattle.std.specs.Prelude.{◌≡◌, map, option_map, IfOk, IfSome, Some};
 ghost use Rattle.std.specs.Bool.{OnTrue};
+ghost use Rattle.snl_output.specs.Texts.{text_in};
 ghost use Rattle.snl_schedule.specs.Goes as spec;
 
 use crate::plans::{ClausePlan, Destination, StatePlan};
-use snl_output::go_text;
+use snl_output::{Text, go_text};
 use std::alloc::{AllocError, Global};
 
 /// How many bytes a short name has at most. A line with a longer one is not kept: so the lines take no more memory than so much
@@ -18,7 +19,7 @@ pub struct Go {
     /// Where the clause leads.
     pub target: Destination,
     /// What follows the time in the line, with its newline; None where a name in it is long.
-    pub text: Option<Vec<u8>>,
+    pub text: Option<Text>,
 }
 
 /// The lines of a state set.
@@ -67,13 +68,8 @@ fn is_short(name: &[u8]) -> bool
 }
 
 /// What follows the time in the line of a transition, if that is kept.
-fn short_text(
-    alloc: Global,
-    set: &[u8],
-    from: &[u8],
-    to: &[u8],
-) -> Result<Option<Vec<u8>>, AllocError>
-    ensures { IfOk result (λ kept. option_map (λ text. text.items) kept
+fn short_text(alloc: Global, set: &[u8], from: &[u8], to: &[u8]) -> Result<Option<Text>, AllocError>
+    ensures { IfOk result (λ kept. option_map text_in kept
         ≡ spec.kept_text set.now from.now to.now) }
 {
     if is_short(set) && is_short(from) && is_short(to) {
@@ -132,16 +128,14 @@ impl Goes {
     }
 
     /// What follows the time in the line of the clause of a number, if that clause of the state leads there and its line is kept.
-    pub fn text(&self, from: usize, clause: usize, to: Destination) -> Option<&[u8]>
-        ensures { IfSome result (λ t. spec.kept_at self.now from clause ≡ Some (to, Some t.now)) }
+    pub fn text(&self, from: usize, clause: usize, to: Destination) -> Option<&Text>
+        ensures { IfSome result (λ t. spec.kept_at self.now from clause
+            ≡ Some (to, Some (text_in t.now))) }
     {
         match self.rows.get(from) {
             None => None,
             Some(row) => match row.get(clause) {
-                Some(go) if is_same(go.target, to) => match &go.text {
-                    Some(text) => Some(text.as_slice()),
-                    None => None,
-                },
+                Some(go) if is_same(go.target, to) => go.text.as_ref(),
                 _ => None,
             },
         }

@@ -115,8 +115,8 @@ impl SetPlan {
 
     /// What follows the time in the line of a transition from a state, by the clause of a number: None where that clause does
     /// not lead there, or a name in the line is long.
-    pub fn go(&self, from: usize, clause: usize, target: Destination) -> Option<&[u8]>
-        ensures { IfSome result (λ text. text.now ≡ go_rest self.now.name.items
+    pub fn go(&self, from: usize, clause: usize, target: Destination) -> Option<&Text>
+        ensures { IfSome result (λ text. text_in text.now ≡ go_rest self.now.name.items
             (name_at self.now.states.items from) (target_name self.now.states.items target)) }
     {
         self.goes.text(from, clause, target)

@@ -7,4 +7,4 @@ pub returns-clause-text : goal.returns-clause-text
 returns-clause-text c =
     let same : c.as_slice.result.now ≡ c.args.format.now.parts.items = search rules in
     line-laid c.args.format.now c.args.numbers.now c.as_slice.result.now (short_of c.args.digits) (text_in c.args.text.now) _ _ _ same
-    (rw c.in_ok-time.ensures.text at c.in_ok-front.ensures.text) c.in_ok-parts.ensures.text c.in_ok-end.ensures.text
+    c.in_ok-front.ensures.text c.in_ok-parts.ensures.text c.in_ok-end.ensures.text
