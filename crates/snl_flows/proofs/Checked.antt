@@ -12,11 +12,11 @@ use Rattle.snl_meaning.specs.Words.{element_place}
 use Rattle.snl_names.specs.declared.builtins.Query.{Query}
 use Rattle.snl_names.specs.declared.builtins.Query.TheVariants.{EfClear, EfSet, EfTest, EfTestAndClear, PvChannelCount, PvConnectCount, PvConnected, PvFlushQ, PvGet, PvGetQ, PvPutComplete}
 use Rattle.snl_text.specs.declared.kinds.Kind.{Kind}
-use Rattle.snl_flows.specs.Checks.{are_all_same, are_bound, are_got, are_got_by, are_got_within, are_kept, are_first_same, are_taken, takes, is_no_more, are_no_more, are_put, are_put_by, are_same_at, begins, hidden_here, is_bound, is_fine_at, is_got, is_got_at, is_got_by, is_got_from, is_got_of, is_named, is_printed, is_put, is_put_at, is_put_by, is_put_of, is_read, is_same_at, is_same_in, known_at, leads, leads_after, may_get_other, may_overflow, may_overflow_by, may_overflow_over, prefix_may_overflow}
-use Rattle.snl_flows.specs.Fine.{AreTaken, Takes, Begins, IsAnyElement, IsBound, IsFineAt, IsGot, IsPrinted, IsPut, IsPutBy, LeadsTo, MayBecomeOther, settled_of}
+use Rattle.snl_flows.specs.Checks.{are_all_same, are_bound, are_got, are_got_by, are_got_within, are_kept, are_first_same, are_taken, takes, is_no_more, are_no_more, are_put, are_put_by, are_same_at, begins, hidden_here, is_bound, is_fine_at, is_got, is_got_at, is_got_by, is_got_from, is_got_of, is_named, is_printed, is_put, is_put_at, is_put_by, is_put_of, is_read, is_same_at, is_same_in, known_at, leads, leads_after, may_get_other, may_get_others, may_overflow, may_overflow_by, may_overflow_over, prefix_may_overflow}
+use Rattle.snl_flows.specs.Fine.{AreTaken, Takes, Begins, IsAnyElement, IsBound, IsFineAt, IsGot, IsPrinted, IsPut, IsPutBy, LeadsTo, MayBecomeOther, MayBecomeOthers, settled_of}
 use Rattle.snl_flows.specs.Outside.{has, places_of}
 use Rattle.snl_flows.specs.Tables.{Operand, Another, Same, Within, CanBe, IsSameIn, top_of, below, under, Flow, Ground, MayDiffer, facts_at, said_at}
-use Rattle.snl_flows.proofs.Checks.{all-no-more, all-same, first-same, first-same-at, gets-other, kept-by, leads-more, leads-one, leads-to, named-by, no-more, overflows, overflows-by, overflows-over, prefix-overflows, read-by, same-in, words-behind, words-same}
+use Rattle.snl_flows.proofs.Checks.{all-no-more, all-same, first-same, first-same-at, get-others, gets-other, kept-by, leads-more, leads-one, leads-to, named-by, no-more, overflows, overflows-by, overflows-over, prefix-overflows, read-by, same-in, words-behind, words-same}
 
 module _ (g : Ground) (set : ℕ) (f : Flow) where
   -- ---- puts
@@ -247,6 +247,11 @@ module _ (g : Ground) (set : ℕ) (f : Flow) where
         let parts = and_parts (may_get_other g set f v.is_shared v.place line) (may_overflow g.lines op op_line) said in
         (gets-other g set f v 0 v.place line (first v) parts.0, overflows g.lines op op_line parts.1)
 
+    -- elements that become others
+    become : (v : Variable) (o : Operand) (op : Kind) (op_line line : ℕ) → (may_get_others g set f v o line && may_overflow g.lines op op_line) ≡ true → MayBecomeOthers g set f v o op op_line line
+    become v o op op_line line said =
+        let parts = and_parts (may_get_others g set f v o line) (may_overflow g.lines op op_line) said in (get-others g set f v o line parts.0, overflows g.lines op op_line parts.1)
+
     -- one test, and where it leads
     with-test : (test : Bool) (to : ℕ) (holds : List Operand) {P : Type 0} → (test ≡ true → P) → (test && leads g set f at to holds) ≡ true → P × LeadsTo g set f at to holds
     with-test test to holds make said = let parts = and_parts test (leads g set f at to holds) said in (make parts.0, leads-to g set f at to holds parts.1)
@@ -262,17 +267,22 @@ module _ (g : Ground) (set : ℕ) (f : Flow) where
         either (is_same_at g set f at v.is_shared v.place && leads g set f at (at + 1) (Same ∷ os)) (leads g set f at (at + 1) (Another ∷ os))
         (with-test (is_same_at g set f at v.is_shared v.place) (at + 1) (Same ∷ os) (first-same-at g set f at v)) (leads-to g set f at (at + 1) (Another ∷ os)) said
     fine-at (Check v line) said = with-test (is_same_in (top_of os)) (at + 1) (Within v.size ∷ below os) (same-in (top_of os)) said
-    fine-at (Get v) said = with-test (is_read g set f at v (top_of os)) (at + 1) (Same ∷ below os) (read-by g set f at v (top_of os)) said
-    fine-at (Peek v) said = with-test (is_read g set f at v (top_of os)) (at + 1) (Same ∷ os) (read-by g set f at v (top_of os)) said
+    fine-at (Get v) said =
+        either (is_read g set f at v (top_of os) && leads g set f at (at + 1) (Same ∷ below os)) (leads g set f at (at + 1) (Another ∷ below os))
+        (with-test (is_read g set f at v (top_of os)) (at + 1) (Same ∷ below os) (read-by g set f at v (top_of os))) (leads-to g set f at (at + 1) (Another ∷ below os)) said
+    fine-at (Peek v) said =
+        either (is_read g set f at v (top_of os) && leads g set f at (at + 1) (Same ∷ os)) (leads g set f at (at + 1) (Another ∷ os))
+        (with-test (is_read g set f at v (top_of os)) (at + 1) (Same ∷ os) (read-by g set f at v (top_of os))) (leads-to g set f at (at + 1) (Another ∷ os)) said
     fine-at (Store v line) said =
         either (is_same_in (top_of os) && leads_after g set f at (at + 1) os v v.place 1) (may_get_other g set f v.is_shared v.place line && leads g set f at (at + 1) os)
         (λ one. let parts = and_parts (is_same_in (top_of os)) (leads_after g set f at (at + 1) os v v.place 1) one in
         (same-in (top_of os) parts.0, leads-one g set f at (at + 1) os v 0 v.place (first v) parts.1))
         (with-test (may_get_other g set f v.is_shared v.place line) (at + 1) os (gets-other g set f v 0 v.place line (first v))) said
     fine-at (StoreAt v line) said =
-        let two = and_parts (is_same_in (top_of os) && is_same_in (top_of (below os))) (leads g set f at (at + 1) (top_of os ∷ below (below os))) said in
-        let one = and_parts (is_same_in (top_of os)) (is_same_in (top_of (below os))) two.0 in
-        (same-in (top_of os) one.0, same-in (top_of (below os)) one.1, leads-to g set f at (at + 1) (top_of os ∷ below (below os)) two.1)
+        with-test ((is_same_in (top_of os) && is_same_in (top_of (below os))) || may_get_others g set f v (top_of (below os)) line) (at + 1) (top_of os ∷ below (below os))
+        (either (is_same_in (top_of os) && is_same_in (top_of (below os))) (may_get_others g set f v (top_of (below os)) line)
+        (λ same. let one = and_parts (is_same_in (top_of os)) (is_same_in (top_of (below os))) same in (same-in (top_of os) one.0, same-in (top_of (below os)) one.1))
+        (get-others g set f v (top_of (below os)) line)) said
     fine-at (Adjust v op op_line line is_before) said =
         either (is_same_at g set f at v.is_shared v.place && leads g set f at (at + 1) (Same ∷ os))
         (may_get_other g set f v.is_shared v.place line && may_overflow g.lines op op_line && leads g set f at (at + 1) (Another ∷ os))
@@ -282,7 +292,11 @@ module _ (g : Ground) (set : ℕ) (f : Flow) where
         with-test (is_same_at g set f at v.is_shared v.place || (may_get_other g set f v.is_shared v.place line && may_overflow g.lines op op_line)) (at + 1) os
         (either (is_same_at g set f at v.is_shared v.place) (may_get_other g set f v.is_shared v.place line && may_overflow g.lines op op_line) (first-same-at g set f at v)
         (becomes v op op_line line)) said
-    fine-at (AdjustAt v op op_line line is_before) said = with-test (is_read g set f at v (top_of os)) (at + 1) (Same ∷ below os) (read-by g set f at v (top_of os)) said
+    fine-at (AdjustAt v op op_line line is_before) said =
+        either (is_read g set f at v (top_of os) && leads g set f at (at + 1) (Same ∷ below os))
+        (may_get_others g set f v (top_of os) line && may_overflow g.lines op op_line && leads g set f at (at + 1) (Another ∷ below os))
+        (with-test (is_read g set f at v (top_of os)) (at + 1) (Same ∷ below os) (read-by g set f at v (top_of os)))
+        (with-test (may_get_others g set f v (top_of os) line && may_overflow g.lines op op_line) (at + 1) (Another ∷ below os) (become v (top_of os) op op_line line)) said
     fine-at (Apply op line) said =
         either (is_same_in (top_of os) && is_same_in (top_of (below os)) && leads g set f at (at + 1) (Same ∷ below (below os)))
         (may_overflow_over g.lines op (top_of os) line && leads g set f at (at + 1) (Another ∷ below (below os)))

@@ -6,8 +6,8 @@ use Rattle.snl_arithmetic.specs.Arithmetic.{is_zero}
 use Rattle.snl_text.specs.declared.kinds.Kind.{Kind}
 use Rattle.snl_text.specs.declared.kinds.Kind.TheVariants as kind
 use Rattle.snl_meaning.specs.declared.instrs.Variable.{Variable}
-use Rattle.snl_flows.specs.Checks.{has_all, has_more, are_below, is_name, is_named, is_same_in, are_first_same, are_all_same, is_no_more, are_no_more, may_overflow, may_overflow_by, may_overflow_over, prefix_may_overflow, hidden_here, known_at, leads, leads_after, is_same_at, are_same_at, is_read, may_get_other, are_kept}
-use Rattle.snl_flows.specs.Fine.{AreKept, AreRead, IsElement, LeadsAfter, LeadsTo, MayGetOther, MayOverflow, MayOverflowBy, MayOverflowOver, PrefixMayOverflow}
+use Rattle.snl_flows.specs.Checks.{has_all, has_more, are_below, is_name, is_named, is_same_in, are_first_same, are_all_same, is_no_more, are_no_more, may_overflow, may_overflow_by, may_overflow_over, prefix_may_overflow, hidden_here, known_at, leads, leads_after, is_same_at, are_same_at, is_read, may_get_from, may_get_other, may_get_others, are_kept}
+use Rattle.snl_flows.specs.Fine.{AreKept, AreRead, IsElement, LeadsAfter, LeadsTo, MayGetOther, MayGetOthers, MayOverflow, MayOverflowBy, MayOverflowOver, PrefixMayOverflow}
 use Rattle.snl_flows.specs.Outside.{has, places_of}
 use Rattle.snl_flows.specs.Tables.{Operand, Another, Same, Within, IsSameIn, top_of, below, AreFirstSame, AreAllSame, IsNoMore, AreNoMore, Flow, Ground, IsOpen, IsSameAt, MayDiffer, facts_at, is_loose, said_at}
 use Rattle.snl_flows.specs.Texts.{IsNamed}
@@ -278,12 +278,41 @@ module _ (g : Ground) (set : ℕ) (f : Flow) where
   read-by at v (Within size) said = (tt, λ k low. words-same at v.is_shared size v.place said k low)
 
   -- a word that may get what is not the same
-  pub gets-other : (v : Variable) (element place line : ℕ) → place ≡ v.place + element → may_get_other g set f v.is_shared place line ≡ true → MayGetOther g set f v element line
-  gets-other v element place line is said =
-      let two = and_parts (is_loose f v.is_shared place && (v.is_shared || has (hidden_here g set f) place)) (has g.lines line) said in
-      let one = and_parts (is_loose f v.is_shared place) (v.is_shared || has (hidden_here g set f) place) two.0 in
-      (subst (MayDiffer (places_of g.hidden set) f v.is_shared) is (record { loose = one.0; hides = by v.is_shared one.1 }), two.1)
+  word-gets : (b : Bool) (place line : ℕ) → may_get_other g set f b place line ≡ true → MayDiffer (places_of g.hidden set) f b place × (has g.lines line ≡ true)
+  word-gets b place line said =
+      let two = and_parts (is_loose f b place && (b || has (hidden_here g set f) place)) (has g.lines line) said in
+      let one = and_parts (is_loose f b place) (b || has (hidden_here g set f) place) two.0 in
+      (record { loose = one.0; hides = by b one.1 }, two.1)
     where
       by : (b : Bool) → (b || has (places_of g.hidden set) place) ≡ true → IsOpen (places_of g.hidden set) b place → ⊥
       by true hides seen = seen
       by false hides seen = false≢true (sym seen ∙ hides)
+
+  -- so may an element
+  pub gets-other : (v : Variable) (element place line : ℕ) → place ≡ v.place + element → may_get_other g set f v.is_shared place line ≡ true → MayGetOther g set f v element line
+  gets-other v element place line is said =
+      let may = word-gets v.is_shared place line said in (subst (MayDiffer (places_of g.hidden set) f v.is_shared) is may.0, may.1)
+
+  -- so many words
+  words-get : (b : Bool) (line many place : ℕ) → may_get_from g set f b place many line ≡ true → (k : ℕ) → k < many → MayDiffer (places_of g.hidden set) f b (place + k)
+  words-get b line zero place said k low = absurd (omega (arith, low))
+  words-get b line (suc many) place said zero low =
+      subst (MayDiffer (places_of g.hidden set) f b) (first place)
+      (word-gets b place line (and_parts (may_get_other g set f b place line) (may_get_from g set f b (suc place) many line) said).0).0
+    where
+      first : (place : ℕ) → place ≡ place + 0
+      first place = omega arith
+  words-get b line (suc many) place said (suc k) low =
+      subst (MayDiffer (places_of g.hidden set) f b) (next place k)
+      (words-get b line many (suc place) (and_parts (may_get_other g set f b place line) (may_get_from g set f b (suc place) many line) said).1 k (omega (arith, low)))
+    where
+      next : (place k : ℕ) → suc place + k ≡ place + suc k
+      next place k = omega arith
+
+  -- elements that a subscript can name
+  pub get-others : (v : Variable) (o : Operand) (line : ℕ) → may_get_others g set f v o line ≡ true → MayGetOthers g set f v o line
+  get-others v Another line said = absurd (false≢true said)
+  get-others v Same line said = absurd (false≢true said)
+  get-others v (Within size) line said =
+      let parts = and_parts (has g.lines line) (may_get_from g set f v.is_shared v.place size line) said in
+      (tt, (λ k low. words-get v.is_shared line size v.place parts.1 k low), parts.0)

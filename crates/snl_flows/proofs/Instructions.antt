@@ -20,7 +20,7 @@ use Rattle.snl_names.specs.declared.builtins.Query.{Query}
 use Rattle.snl_names.specs.declared.builtins.Query.TheVariants.{EfClear, EfSet, EfTest, EfTestAndClear, PvChannelCount, PvConnectCount, PvConnected, PvFlushQ, PvGet, PvGetQ, PvPutComplete}
 use Rattle.snl_alike.specs.TwoRuns.{ComesBy}
 use Rattle.snl_alike.proofs.Linked.{agrees-printed, agrees-asked, agrees-ask_element}
-use Rattle.snl_flows.specs.Fine.{AreRead, Begins, IsAnyElement, IsFineAt, IsFirstSame, IsGot, IsPrinted, LeadsTo, MayBecomeOther, MayOverflowBy, MayOverflowOver, PrefixMayOverflow, Takes, settled_of}
+use Rattle.snl_flows.specs.Fine.{AreRead, Begins, IsAnyElement, IsFineAt, IsFirstSame, IsGot, IsPrinted, LeadsTo, MayBecomeOther, MayBecomeOthers, MayOverflowBy, MayOverflowOver, PrefixMayOverflow, Takes, settled_of}
 use Rattle.snl_flows.specs.LeftOut.{left_out}
 use Rattle.snl_flows.specs.Outside.{has}
 use Rattle.snl_flows.specs.Tables.{Operand, Another, Same, Within, IsSameIn, top_of, below, Flow, Ground, HasLinks}
@@ -49,6 +49,10 @@ module _ (g : Ground) (f : Flow) (c : PieceContext) where
   element at v o x y w u fine h e =
       twice g f c (Holds g f c at Same) (read c.set v) x y w u (same-of o x y fine.0 h)
       (read-to g c.set (K g f c at) v x w u (known g f c at v.is_shared (v.place + natural x) (fine.1 (natural x) (can-be o x y fine.0 h))) e)
+
+  -- one of which nothing is known
+  any-element : (at : ℕ) (v : Variable) (x y : ℤ) (w u : World) → At g f c at w u → AlikeTo g (Holds g f c at Another) (read c.set v x w) (read c.set v y u)
+  any-element at v x y w u e = lead g (Holds g f c at Another) _ _ w u (tt, e)
 
   -- a load
   loads : (at : ℕ) (v : Variable) (s t : List ℤ) (w u : World) → Does (Load v) at s t w u
@@ -90,11 +94,17 @@ module _ (g : Ground) (f : Flow) (c : PieceContext) where
       topped g f c at (ops g f c at) s t
       (λ z more. then_do (adjusted c.set v op op_line line is_before z w) (goes_with (at + 1) more))
       (λ z more. then_do (adjusted c.set v op op_line line is_before z u) (goes_with (at + 1) more)) w u h e
-      (λ x y s' t' top rest.
-      on g f c at (at + 1) Same (below (ops g f c at)) s' t' (adjusted c.set v op op_line line is_before x w) (adjusted c.set v op op_line line is_before y u) fine.1 rest
-      (twice g f c (Holds g f c at Same) (adjusted c.set v op op_line line is_before) x y w u (same-of (top_of (ops g f c at)) x y fine.0.0 top)
+      (λ x y s' t' top rest. ⊎_elim
+      (λ (same : AreRead g c.set f at v (top_of (ops g f c at)) × LeadsTo g c.set f at (at + 1) (Same ∷ below (ops g f c at))).
+      on g f c at (at + 1) Same (below (ops g f c at)) s' t' (adjusted c.set v op op_line line is_before x w) (adjusted c.set v op op_line line is_before y u) same.1 rest
+      (twice g f c (Holds g f c at Same) (adjusted c.set v op op_line line is_before) x y w u (same-of (top_of (ops g f c at)) x y same.0.0 top)
       (adjusted-to-same g c.set (K g f c at) v op op_line line is_before x w u
-      (known g f c at v.is_shared (v.place + natural x) (fine.0.1 (natural x) (can-be (top_of (ops g f c at)) x y fine.0.0 top))) e)))
+      (known g f c at v.is_shared (v.place + natural x) (same.0.1 (natural x) (can-be (top_of (ops g f c at)) x y same.0.0 top))) e)))
+      (λ (other : MayBecomeOthers g c.set f v (top_of (ops g f c at)) op op_line line × LeadsTo g c.set f at (at + 1) (Another ∷ below (ops g f c at))).
+      on g f c at (at + 1) Another (below (ops g f c at)) s' t' (adjusted c.set v op op_line line is_before x w) (adjusted c.set v op op_line line is_before y u) other.1 rest
+      (twice g f c (Holds g f c at Another) (adjusted c.set v op op_line line is_before) x y w u (same-of (top_of (ops g f c at)) x y other.0.0.0 top)
+      (adjusted-to-other g c.set (K g f c at) v op op_line line is_before x w u other.0.1 other.0.0.2
+      (apart g f c at v.is_shared (v.place + natural x) (other.0.0.1 (natural x) (can-be (top_of (ops g f c at)) x y other.0.0.0 top))) e))) fine)
 
   -- a variable that becomes 0
   clears : (at : ℕ) (v : Variable) (s t : List ℤ) (w u : World) → Does (Clear v) at s t w u
@@ -274,14 +284,18 @@ module _ (g : Ground) (f : Flow) (c : PieceContext) where
       topped g f c at (ops g f c at) s t
       (λ z more. then_do (read c.set v z w) (goes_with (at + 1) more))
       (λ z more. then_do (read c.set v z u) (goes_with (at + 1) more)) w u h e
-      (λ x y s' t' top rest.
-      on g f c at (at + 1) Same (below (ops g f c at)) s' t' (read c.set v x w) (read c.set v y u) fine.1 rest (element at v (top_of (ops g f c at)) x y w u fine.0 top e))
+      (λ x y s' t' top rest. ⊎_elim
+      (λ (same : AreRead g c.set f at v (top_of (ops g f c at)) × LeadsTo g c.set f at (at + 1) (Same ∷ below (ops g f c at))).
+      on g f c at (at + 1) Same (below (ops g f c at)) s' t' (read c.set v x w) (read c.set v y u) same.1 rest (element at v (top_of (ops g f c at)) x y w u same.0 top e))
+      (λ other. on g f c at (at + 1) Another (below (ops g f c at)) s' t' (read c.set v x w) (read c.set v y u) other rest (any-element at v x y w u e)) fine)
   done-alike (Peek v) at s t w u links backs same = λ fine h e.
       topped g f c at (ops g f c at) s t
       (λ z more. pushes c at (z ∷ more) w (read c.set v z w))
       (λ z more. pushes c at (z ∷ more) u (read c.set v z u)) w u h e
-      (λ x y s' t' top rest.
-      pushed g f c at Same (ops g f c at) (x ∷ s') (y ∷ t') w u (read c.set v x w) (read c.set v y u) fine.1 (top, rest) e (element at v (top_of (ops g f c at)) x y w u fine.0 top e))
+      (λ x y s' t' top rest. ⊎_elim
+      (λ (same : AreRead g c.set f at v (top_of (ops g f c at)) × LeadsTo g c.set f at (at + 1) (Same ∷ ops g f c at)).
+      pushed g f c at Same (ops g f c at) (x ∷ s') (y ∷ t') w u (read c.set v x w) (read c.set v y u) same.1 (top, rest) e (element at v (top_of (ops g f c at)) x y w u same.0 top e))
+      (λ other. pushed g f c at Another (ops g f c at) (x ∷ s') (y ∷ t') w u (read c.set v x w) (read c.set v y u) other (top, rest) e (any-element at v x y w u e)) fine)
   done-alike (Store v line) at s t w u links backs same = λ fine h e. stores g f c at v line s t w u fine h e
   done-alike (StoreAt v line) at s t w u links backs same = λ fine h e. stores-at g f c at v line s t w u fine h e
   done-alike (Adjust v op op_line line is_before) at s t w u links backs same = adjusts at v op op_line line is_before s t w u

@@ -8,7 +8,7 @@ use Rattle.snl_meaning.specs.declared.instrs.Variable.{Variable}
 use Rattle.snl_meaning.specs.Run.{Entry}
 use Rattle.snl_names.specs.declared.builtins.Query.{Query}
 use Rattle.snl_names.specs.declared.builtins.Query.TheVariants.{EfClear, EfSet, EfTest, EfTestAndClear, PvChannelCount, PvConnectCount, PvConnected, PvFlushQ, PvGet, PvGetQ, PvPutComplete}
-use Rattle.snl_flows.specs.Fine.{AreRead, AreTaken, Begins, IsFineAt, IsGot, IsPut, IsPutBy, MayGetOther, Takes}
+use Rattle.snl_flows.specs.Fine.{AreRead, AreTaken, Begins, IsFineAt, IsGot, IsPut, IsPutBy, MayGetOther, MayGetOthers, Takes}
 use Rattle.snl_flows.specs.Outside.{has, places_of}
 use Rattle.snl_flows.specs.Quiet.{AreFine, ArePassed, IsPassed, IsQuietAt, StaysIn}
 use Rattle.snl_flows.specs.Tables.{Operand, Flow, Ground, IsOpen, IsSameAt, MayDiffer, facts_at}
@@ -42,6 +42,10 @@ module _ (g : Ground) (places : List (List ℕ)) (set : ℕ) (f : Flow) (shows :
   -- an element that may get what is not the same
   gets-less : (v : Variable) (element line : ℕ) → MayGetOther g set f v element line → MayGetOther less set f v element line
   gets-less v element line may = (differs-less v.is_shared (v.place + element) may.0, may.1)
+
+  -- elements that may
+  get-less : (v : Variable) (o : Operand) (line : ℕ) → MayGetOthers g set f v o line → MayGetOthers less set f v o line
+  get-less v o line may = (may.0, (λ k can. differs-less v.is_shared (v.place + k) (may.1 k can)), may.2)
 
   -- a put
   put-by-less : (at place count : ℕ) (o : Option ℕ) → IsPutBy g set f at place count o → IsPutBy less set f at place count o
@@ -79,15 +83,16 @@ module _ (g : Ground) (places : List (List ℕ)) (set : ℕ) (f : Flow) (shows :
   fine-less at (Push z) h = h
   fine-less at (Load v) h = ⊎_elim (λ same. inl (same-less at v.is_shared (v.place + 0) same.0, same.1)) (λ other. inr other) h
   fine-less at (Check v line) h = h
-  fine-less at (Get v) h = (read-less at v _ h.0, h.1)
-  fine-less at (Peek v) h = (read-less at v _ h.0, h.1)
+  fine-less at (Get v) h = ⊎_elim (λ same. inl (read-less at v _ same.0, same.1)) (λ other. inr other) h
+  fine-less at (Peek v) h = ⊎_elim (λ same. inl (read-less at v _ same.0, same.1)) (λ other. inr other) h
   fine-less at (Store v line) h = ⊎_elim (λ same. inl same) (λ other. inr (gets-less v 0 line other.0, other.1)) h
-  fine-less at (StoreAt v line) h = h
+  fine-less at (StoreAt v line) h = (⊎_elim (λ same. inl same) (λ may. inr (get-less v _ line may)) h.0, h.1)
   fine-less at (Adjust v op op_line line is_before) h =
       ⊎_elim (λ same. inl (same-less at v.is_shared (v.place + 0) same.0, same.1)) (λ other. inr ((gets-less v 0 line other.0.0, other.0.1), other.1)) h
   fine-less at (Increment v op op_line line) h =
       (⊎_elim (λ same. inl (same-less at v.is_shared (v.place + 0) same)) (λ other. inr (gets-less v 0 line other.0, other.1)) h.0, h.1)
-  fine-less at (AdjustAt v op op_line line is_before) h = (read-less at v _ h.0, h.1)
+  fine-less at (AdjustAt v op op_line line is_before) h =
+      ⊎_elim (λ same. inl (read-less at v _ same.0, same.1)) (λ other. inr ((get-less v _ line other.0.0, other.0.1), other.1)) h
   fine-less at (Apply op line) h = h
   fine-less at (ApplyNumber op z line) h = h
   fine-less at (ApplyPrefix op line) h = h

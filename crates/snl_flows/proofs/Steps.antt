@@ -11,13 +11,13 @@ use Rattle.snl_meaning.specs.Run.{Entry, PieceContext, Step, GoesTo, GoesOver, E
 use Rattle.snl_meaning.specs.Words.{called_with, is_subscript, natural, stored, subscript}
 use Rattle.snl_meaning.specs.World.{World}
 use Rattle.snl_alike.specs.TwoRuns.{Agrees, KeepsAlike}
-use Rattle.snl_flows.specs.Fine.{AreKept, AreTaken, Begins, IsElement, IsFineAt, LeadsAfter, LeadsTo, MayGetOther, Takes}
+use Rattle.snl_flows.specs.Fine.{AreKept, AreTaken, Begins, IsElement, IsFineAt, LeadsAfter, LeadsTo, MayGetOther, MayGetOthers, Takes}
 use Rattle.snl_flows.specs.LeftOut.{left_out}
 use Rattle.snl_flows.specs.Outside.{AreSameAt, has, places_of, IsSameOutside}
 use Rattle.snl_flows.specs.Tables.{Operand, Same, Within, IsSameIn, top_of, below, under, AreAllSame, IsNoMore, AreNoMore, Flow, Ground, IsOpen, IsReached, IsSameAt, MayDiffer, facts_at, is_loose, said_at}
 use Rattle.snl_flows.specs.Texts.{IsInLine, SameButValues}
 use Rattle.snl_flows.proofs.Kept.{keeps-words, plain, SameKept}
-use Rattle.snl_flows.proofs.Operands.{HoldsOf, HoldOf, all-same, as-many, given-holds, holds-of-same, no-more-of, same-of, under-of}
+use Rattle.snl_flows.proofs.Operands.{HoldsOf, HoldOf, all-same, as-many, can-be, given-holds, holds-of-same, no-more-of, same-of, under-of}
 use Rattle.snl_flows.proofs.Outcomes.{AlikeTo, lead, less-to, stop, test-to, then-to}
 use Rattle.snl_flows.proofs.Calls.{Bound, calls-to}
 use Rattle.snl_flows.proofs.Puts.{Entered}
@@ -214,11 +214,15 @@ module _ (g : Ground) (f : Flow) (c : PieceContext) where
       (λ k z more. then_do (stored c.set v line k z u) (goes_with (at + 1) more)) w u h e
       (λ k k' z z' s' t' top next rest.
       subst (λ (j : ℤ). AlikeTo g Next (then_do (stored c.set v line k z w) (goes_with (at + 1) s')) (then_do (stored c.set v line j z' u) (goes_with (at + 1) t')))
-      (same-of (top_of (below (ops at))) k k' fine.1 next)
-      (on at (at + 1) (top_of (ops at)) (below (below (ops at))) s' t' (stored c.set v line k z w) (stored c.set v line k z' u) fine.2 rest
-      (less-to g (Grows g c.set (K at) (IsElement v (natural k)) (top_of (ops at))) (Holds at (top_of (ops at))) (stored c.set v line k z w) (stored c.set v line k z' u)
+      (same-of (top_of (below (ops at))) k k' (⊎_elim (λ same. same.1) (λ may. may.0) fine.0) next)
+      (on at (at + 1) (top_of (ops at)) (below (below (ops at))) s' t' (stored c.set v line k z w) (stored c.set v line k z' u) fine.1 rest (⊎_elim
+      (λ (same : IsSameIn (top_of (ops at)) × IsSameIn (top_of (below (ops at)))).
+      less-to g (Grows g c.set (K at) (IsElement v (natural k)) (top_of (ops at))) (Holds at (top_of (ops at))) (stored c.set v line k z w) (stored c.set v line k z' u)
       (λ a b p q more. (more.0, same-less g c.set (With (K at) (IsElement v (natural k))) (K at) p q (λ d j m. inl m) more.1))
-      (stored-to g c.set (K at) (top_of (ops at)) v line k z z' w u fine.0 top e))))
+      (stored-to g c.set (K at) (top_of (ops at)) v line k z z' w u same.0 top e))
+      (λ (may : MayGetOthers g c.set f v (top_of (below (ops at))) line).
+      stored-other g c.set (K at) (top_of (ops at)) v line k z z' w u top may.2
+      (apart at v.is_shared (v.place + natural k) (may.1 (natural k) (can-be (top_of (below (ops at))) k k' may.0 next))) e) fine.0)))
 
   -- the check of a subscript
   pub checked : (at : ℕ) (v : Variable) (line : ℕ) (k : ℤ) (w u : World) → At at w u → AlikeTo g (Holds at (Within v.size)) (subscript v line k w) (subscript v line k u)

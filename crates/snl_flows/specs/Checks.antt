@@ -153,9 +153,19 @@ module _ (g : Ground) (set : ℕ) (f : Flow) where
   is_read at v Same = not v.is_shared && are_below v.place hidden_here
   is_read at v (Within size) = are_same_at at v.is_shared v.place size
 
-  -- Whether a word may get what is not the same, by a step that is charged to a line.
+  -- Whether a word may get what is not the same, by a step that is charged to a line,
   abbrev pub may_get_other : (is_shared : Bool) → (place line : ℕ) → Bool
   may_get_other is_shared place line = is_loose f is_shared place && (is_shared || has hidden_here place) && has g.lines line
+
+  -- and so many from a place on.
+  abbrev pub may_get_from : (is_shared : Bool) → (place many line : ℕ) → Bool
+  may_get_from is_shared place zero line = true
+  may_get_from is_shared place (suc many) line = may_get_other is_shared place line && may_get_from is_shared (suc place) many line
+
+  -- Whether each element may that a subscript can name, which was checked.
+  abbrev pub may_get_others : Variable → Operand → (line : ℕ) → Bool
+  may_get_others v (Within size) line = has g.lines line && may_get_from v.is_shared v.place size line
+  may_get_others v _ line = false
 
   -- ---- puts
 
@@ -281,18 +291,21 @@ module _ (g : Ground) (set : ℕ) (f : Flow) where
   is_fine_at at (Push z) = leads at (at + 1) (Same ∷ known_at at)
   is_fine_at at (Load v) = (is_same_at at v.is_shared v.place && leads at (at + 1) (Same ∷ known_at at)) || leads at (at + 1) (Another ∷ known_at at)
   is_fine_at at (Check v line) = is_same_in (top_of (known_at at)) && leads at (at + 1) (Within v.size ∷ below (known_at at))
-  is_fine_at at (Get v) = is_read at v (top_of (known_at at)) && leads at (at + 1) (Same ∷ below (known_at at))
-  is_fine_at at (Peek v) = is_read at v (top_of (known_at at)) && leads at (at + 1) (Same ∷ known_at at)
+  is_fine_at at (Get v) = (is_read at v (top_of (known_at at)) && leads at (at + 1) (Same ∷ below (known_at at))) || leads at (at + 1) (Another ∷ below (known_at at))
+  is_fine_at at (Peek v) = (is_read at v (top_of (known_at at)) && leads at (at + 1) (Same ∷ known_at at)) || leads at (at + 1) (Another ∷ known_at at)
   is_fine_at at (Store v line) =
       (is_same_in (top_of (known_at at)) && leads_after at (at + 1) (known_at at) v v.place 1) || (may_get_other v.is_shared v.place line && leads at (at + 1) (known_at at))
   is_fine_at at (StoreAt v line) =
-      is_same_in (top_of (known_at at)) && is_same_in (top_of (below (known_at at))) && leads at (at + 1) (top_of (known_at at) ∷ below (below (known_at at)))
+      ((is_same_in (top_of (known_at at)) && is_same_in (top_of (below (known_at at)))) || may_get_others v (top_of (below (known_at at))) line)
+      && leads at (at + 1) (top_of (known_at at) ∷ below (below (known_at at)))
   is_fine_at at (Adjust v op op_line line is_before) =
       (is_same_at at v.is_shared v.place && leads at (at + 1) (Same ∷ known_at at))
       || (may_get_other v.is_shared v.place line && may_overflow g.lines op op_line && leads at (at + 1) (Another ∷ known_at at))
   is_fine_at at (Increment v op op_line line) =
       (is_same_at at v.is_shared v.place || (may_get_other v.is_shared v.place line && may_overflow g.lines op op_line)) && leads at (at + 1) (known_at at)
-  is_fine_at at (AdjustAt v op op_line line is_before) = is_read at v (top_of (known_at at)) && leads at (at + 1) (Same ∷ below (known_at at))
+  is_fine_at at (AdjustAt v op op_line line is_before) =
+      (is_read at v (top_of (known_at at)) && leads at (at + 1) (Same ∷ below (known_at at)))
+      || (may_get_others v (top_of (known_at at)) line && may_overflow g.lines op op_line && leads at (at + 1) (Another ∷ below (known_at at)))
   is_fine_at at (Apply op line) =
       (is_same_in (top_of (known_at at)) && is_same_in (top_of (below (known_at at))) && leads at (at + 1) (Same ∷ below (below (known_at at))))
       || (may_overflow_over g.lines op (top_of (known_at at)) line && leads at (at + 1) (Another ∷ below (below (known_at at))))

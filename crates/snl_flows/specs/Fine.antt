@@ -107,9 +107,17 @@ module _ (g : Ground) (set : ℕ) (f : Flow) where
   abbrev pub MayGetOther : Variable → (element line : ℕ) → Type 0
   MayGetOther v element line = MayDiffer (places_of g.hidden set) f v.is_shared (v.place + element) × (has g.lines line ≡ true)
 
-  -- The same by an operator that is charged to a line of its own.
+  -- So may each element that a subscript can name, which is the same.
+  abbrev pub MayGetOthers : Variable → Operand → (line : ℕ) → Type 0
+  MayGetOthers v o line = IsSameIn o × ((k : ℕ) → CanBe o k → MayDiffer (places_of g.hidden set) f v.is_shared (v.place + k)) × (has g.lines line ≡ true)
+
+  -- An element may get what is not the same by an operator that is charged to a line of its own.
   abbrev pub MayBecomeOther : Variable → Kind → (op_line line : ℕ) → Type 0
   MayBecomeOther v op op_line line = MayGetOther v 0 line × MayOverflow g.lines op op_line
+
+  -- So may each element that a subscript can name.
+  abbrev pub MayBecomeOthers : Variable → Operand → Kind → (op_line line : ℕ) → Type 0
+  MayBecomeOthers v o op op_line line = MayGetOthers v o line × MayOverflow g.lines op op_line
 
   -- ---- puts
 
@@ -169,16 +177,20 @@ module _ (g : Ground) (set : ℕ) (f : Flow) where
   IsFineAt at (Push z) = LeadsTo at (at + 1) (Same ∷ operands_at at)
   IsFineAt at (Load v) = (IsFirstSame at v × LeadsTo at (at + 1) (Same ∷ operands_at at)) ⊎ LeadsTo at (at + 1) (Another ∷ operands_at at)
   IsFineAt at (Check v line) = IsSameIn (top_of (operands_at at)) × LeadsTo at (at + 1) (Within v.size ∷ below (operands_at at))
-  IsFineAt at (Get v) = AreRead at v (top_of (operands_at at)) × LeadsTo at (at + 1) (Same ∷ below (operands_at at))
-  IsFineAt at (Peek v) = AreRead at v (top_of (operands_at at)) × LeadsTo at (at + 1) (Same ∷ operands_at at)
+  IsFineAt at (Get v) =
+      (AreRead at v (top_of (operands_at at)) × LeadsTo at (at + 1) (Same ∷ below (operands_at at))) ⊎ LeadsTo at (at + 1) (Another ∷ below (operands_at at))
+  IsFineAt at (Peek v) = (AreRead at v (top_of (operands_at at)) × LeadsTo at (at + 1) (Same ∷ operands_at at)) ⊎ LeadsTo at (at + 1) (Another ∷ operands_at at)
   IsFineAt at (Store v line) =
       (IsSameIn (top_of (operands_at at)) × LeadsAfter at (at + 1) (operands_at at) (IsElement v 0)) ⊎ (MayGetOther v 0 line × LeadsTo at (at + 1) (operands_at at))
   IsFineAt at (StoreAt v line) =
-      IsSameIn (top_of (operands_at at)) × IsSameIn (top_of (below (operands_at at))) × LeadsTo at (at + 1) (top_of (operands_at at) ∷ below (below (operands_at at)))
+      ((IsSameIn (top_of (operands_at at)) × IsSameIn (top_of (below (operands_at at)))) ⊎ MayGetOthers v (top_of (below (operands_at at))) line)
+      × LeadsTo at (at + 1) (top_of (operands_at at) ∷ below (below (operands_at at)))
   IsFineAt at (Adjust v op op_line line is_before) =
       (IsFirstSame at v × LeadsTo at (at + 1) (Same ∷ operands_at at)) ⊎ (MayBecomeOther v op op_line line × LeadsTo at (at + 1) (Another ∷ operands_at at))
   IsFineAt at (Increment v op op_line line) = (IsFirstSame at v ⊎ MayBecomeOther v op op_line line) × LeadsTo at (at + 1) (operands_at at)
-  IsFineAt at (AdjustAt v op op_line line is_before) = AreRead at v (top_of (operands_at at)) × LeadsTo at (at + 1) (Same ∷ below (operands_at at))
+  IsFineAt at (AdjustAt v op op_line line is_before) =
+      (AreRead at v (top_of (operands_at at)) × LeadsTo at (at + 1) (Same ∷ below (operands_at at)))
+      ⊎ (MayBecomeOthers v (top_of (operands_at at)) op op_line line × LeadsTo at (at + 1) (Another ∷ below (operands_at at)))
   IsFineAt at (Apply op line) =
       (IsSameIn (top_of (operands_at at)) × IsSameIn (top_of (below (operands_at at))) × LeadsTo at (at + 1) (Same ∷ below (below (operands_at at))))
       ⊎ (MayOverflowOver g.lines op (top_of (operands_at at)) line × LeadsTo at (at + 1) (Another ∷ below (below (operands_at at))))
