@@ -1,10 +1,9 @@
 -- Laws of texts and their lines.
-use Rattle.std.proofs.Common.{◌≡◌, ◌==◌, ◌&&◌, ◌≤◌, ◌<◌, ◌+◌, ◌-◌, ℕ, suc, zero, Bool, true, false, not, List, [], ◌∷◌, ◌++◌, length, take, get_or, Option, None, Some, refl, sym, ap, ◌∙◌, arith, append_assoc, append-nil, inl, inr, if◌then◌else◌}
-use Rattle.std.specs.List.{list_all}
+use Rattle.std.proofs.Common.{◌≡◌, ◌==◌, ◌&&◌, ◌≤◌, ◌<◌, ◌+◌, ◌-◌, ℕ, suc, zero, Bool, true, false, not, List, [], ◌∷◌, ◌++◌, length, take, get_or, Option, None, Some, refl, ap, ◌∙◌, arith, append_assoc, append-nil, inl, inr, if◌then◌else◌}
 use Rattle.std.proofs.lemmas.Bool.{and_from, and_parts, cases_Bool, not-true}
 use Rattle.memchr.specs.Find.{IsFirstByte, Nowhere, Passes, is_byte}
 use Rattle.snl_watch.specs.Folding.{lines_behind, lines_of}
-use Rattle.snl_watch.specs.Folds.{ends_line, is_in_line, is_other, lines_on}
+use Rattle.snl_watch.specs.Folds.{ends_line, is_in_line, lines_on}
 
 -- the front of a text up to a byte before which no newline stands
 in-line-within : (text : List ℕ) (k : ℕ) → ((j : ℕ) → suc j < k → (get_or text j 0 == 10) ≡ false) → is_in_line (take k text) ≡ true
@@ -14,6 +13,13 @@ in-line-within (x ∷ xs) (suc zero) none = refl
 in-line-within (x ∷ []) (suc (suc k)) none = refl
 in-line-within (x ∷ y ∷ xs) (suc (suc k)) none =
     and_from (not (x == 10)) (is_in_line (y ∷ take k xs)) (rw (none 0 (omega arith)) refl) (in-line-within (y ∷ xs) (suc k) (λ j below. none (suc j) (omega (arith, below))))
+
+-- a text before whose last byte none stands
+pub in-line-before : (text : List ℕ) → ((j : ℕ) → suc j < length text → (get_or text j 0 == 10) ≡ false) → is_in_line text ≡ true
+in-line-before [] none = refl
+in-line-before (x ∷ []) none = refl
+in-line-before (x ∷ y ∷ xs) none =
+    and_from (not (x == 10)) (is_in_line (y ∷ xs)) (rw (none 0 (omega arith)) refl) (in-line-before (y ∷ xs) (λ j below. none (suc j) (omega (arith, below))))
 
 -- where no newline stands in front of a place, none is there
 none-newline : (text : List ℕ) (k j : ℕ) → Nowhere (Passes (is_byte 10) text) 0 k → j < k → (get_or text j 0 == 10) ≡ false
@@ -29,16 +35,6 @@ in-line-first text k first = in-line-within text (k + 1) (λ j below. none-newli
 -- and all of it where it has none
 pub in-line-none : (text : List ℕ) → IsFirstByte (is_byte 10) text None → is_in_line (take (length text) text) ≡ true
 in-line-none text none = in-line-within text (length text) (λ j below. none-newline text (length text) j none (omega (arith, below)))
-
--- a text whose bytes but the last are no newlines
-pub in-line-all : (text : List ℕ) → list_all is_other (take (length text - 1) text) ≡ true → is_in_line text ≡ true
-in-line-all [] all = refl
-in-line-all (x ∷ []) all = refl
-in-line-all (x ∷ y ∷ xs) all =
-    let size : length (x ∷ y ∷ xs) - 1 ≡ suc (length (y ∷ xs) - 1) = omega arith in
-    let front = ap (λ k. list_all is_other (take k (x ∷ y ∷ xs))) (sym size) ∙ all in
-    let parts = and_parts (not (x == 10)) (list_all is_other (take (length (y ∷ xs) - 1) (y ∷ xs))) front in
-    and_from (not (x == 10)) (is_in_line (y ∷ xs)) parts.0 (in-line-all (y ∷ xs) parts.1)
 
 -- the front of a text with a newline at its end at most
 pub in-line-front : (n : ℕ) (xs : List ℕ) → is_in_line xs ≡ true → is_in_line (take n xs) ≡ true

@@ -1,5 +1,5 @@
 -- A run that is being folded: what was written, what is held, and the line that has begun.
-use Rattle.std.specs.Prelude.{◌≡◌, ◌==◌, ◌&&◌, ℕ, Bool, true, false, not, List, [], ◌∷◌, ◌++◌, length, map, if◌then◌else◌, All, Option}
+use Rattle.std.specs.Prelude.{◌≡◌, ◌==◌, ◌&&◌, ℕ, Bool, true, false, not, List, [], ◌∷◌, ◌++◌, ◌≤◌, ◌<◌, get_or, length, map, if◌then◌else◌, All, Option}
 use Rattle.snl_output.specs.Devices.{told_more}
 use Rattle.snl_output.specs.Lines.{joined}
 use Rattle.snl_watch.specs.Folding.{Again, IsNoted, Line, Note, Piece, StandFor, last_of, lines_behind, lines_of, repeated, without_time, written}
@@ -14,15 +14,15 @@ ends_line [] = false
 ends_line (byte ∷ []) = byte == 10
 ends_line (byte ∷ next ∷ bytes) = ends_line (next ∷ bytes)
 
--- Whether a byte is no newline.
-abbrev pub is_other : ℕ → Bool
-is_other byte = not (byte == 10)
-
 -- Whether a text has a newline at its end at most.
 abbrev pub is_in_line : List ℕ → Bool
 is_in_line [] = true
 is_in_line (byte ∷ []) = true
 is_in_line (byte ∷ next ∷ bytes) = not (byte == 10) && is_in_line (next ∷ bytes)
+
+-- No newline stands in a text from a place on and before another.
+abbrev pub NoneBetween : List ℕ → ℕ → ℕ → Type 0
+NoneBetween text from to = (place : ℕ) → from ≤ place → place < to → (get_or text place 0 == 10) ≡ false
 
 -- The lines of a text that goes on from a line, which a newline may have ended.
 abbrev pub lines_on : List ℕ → List ℕ → List (List ℕ)

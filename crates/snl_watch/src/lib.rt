@@ -43,6 +43,7 @@ pub use folder::Folder;
 pub use follower::Follower;
 pub use heard::{EventCount, HeardTrace, NameCount};
 pub use legend::{ClauseLegend, Legend, SeenValue, SetLegend, StateLegend};
+pub use line_ends::count_lines;
 pub use lines::line_number;
 pub use listener::Listener;
 pub use notes::Notes;

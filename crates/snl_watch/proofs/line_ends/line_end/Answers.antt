@@ -1,7 +1,7 @@
 use Rattle.std.proofs.Common.{◌≡◌, None, Some, subst}
 use Rattle.memchr.specs.Find.{IsFirstByte, is_byte}
 use Rattle.snl_watch.proofs.LineLaws.{in-line-first, in-line-none}
-use Rattle.snl_watch.proofs.line_ends.first_line.Goals as goal
+use Rattle.snl_watch.proofs.line_ends.line_end.Goals as goal
 
 pub returns-in-Some-clause-line : goal.returns-in-Some-clause-line
 returns-in-Some-clause-line c =
