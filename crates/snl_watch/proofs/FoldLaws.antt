@@ -309,7 +309,7 @@ none-of [] none = refl
 none-of (x ∷ xs) none = absurd (omega (arith, none))
 
 -- what is folded stays where the same lines are kept
-pub recents-as : (run output line : List ℕ) (recent recent' : Recent) (block : Block) → recent'.texts ≡ recent.texts → Folds run output line recent block →
+pub recents-as : (run output line : List ℕ) (recent recent' : Recent) (block : Block) → recent'.lines ≡ recent.lines → Folds run output line recent block →
     Folds run output line recent' block
 recents-as run output line recent recent' block same f = record {
   lines = f.lines;
@@ -327,7 +327,7 @@ recents-as run output line recent recent' block same f = record {
   stand = f.stand;
   lines_are = f.lines_are;
   turning = f.turning;
-  known = f.known ∙ ap (λ t. f.older ++ map (λ text. text.items) t.items) (sym same);
+  known = f.known ∙ ap (λ t. f.older ++ map (λ line. without_time line.items) t.items) (sym same);
 }
 
 -- what holds after a call that went well, where something that follows from it is asked for

@@ -171,7 +171,8 @@ impl Block {
         write_many(sink, self.size, self.times, more, self.until.as_slice())
     }
 
-    /// Writes how often the block came again, and what is held of it.
+    /// Writes how often the block came again, and what is held of it. Mostly that is nothing.
+    #[inline(always)]
     pub(crate) fn write<S: Sink>(&self, sink: &mut S) -> Result<(), SinkFault>
         requires { S.failures sink.old < 2 ^ 64 - 1 }
         ensures told { OnOk result (S.told sink.new
@@ -181,6 +182,17 @@ impl Block {
         if self.times == 0 && self.held.is_empty() {
             return Ok(());
         }
+        self.write_some(sink)
+    }
+
+    /// The same, where there is something to write.
+    #[inline(never)]
+    fn write_some<S: Sink>(&self, sink: &mut S) -> Result<(), SinkFault>
+        requires { S.failures sink.old < 2 ^ 64 - 1 }
+        ensures told { OnOk result (S.told sink.new
+            ≡ told_more (S.told sink.old) (told_again self.now ++ self.now.held.items)) }
+        ensures failures { S.failures sink.new ≡ counted (is_err result) (S.failures sink.old) }
+    {
         self.write_again(sink)?;
         write_pieces(sink, &[self.held.as_slice()])
     }

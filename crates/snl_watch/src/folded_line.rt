@@ -7,10 +7,9 @@ ghost use Rattle.snl_watch.specs.Folding.{are_notes, without_time};
 ghost use Rattle.snl_watch.specs.Folds.{Folds, TellsMore, ends_line, is_in_line};
 
 use crate::block::Block;
-use crate::line_ends::digits_of;
 use crate::noted::are_notes;
 use crate::recent::Recent;
-use crate::writer::write_whole;
+use crate::writer::write_held;
 use crate::zero::Zero;
 use snl_output::{Sink, SinkFault};
 
@@ -23,15 +22,6 @@ pub(crate) fn noted<'t>(notes: &'t [u8]) -> &'t [u8]
 
 /// How many bytes a line of a block has at most, without its time.
 const TEXT: usize = 256;
-
-/// Holds a line without its time; answers whether it may be in a block: whether it is not too long, and memory was found.
-fn holds(line: &[u8], recent: &mut Recent) -> bool
-    ensures next { result ≡ true → recent.new.next.items ≡ without_time line.now }
-    ensures texts { recent.new.texts ≡ recent.old.texts }
-{
-    let text = &line[digits_of(line)..];
-    text.len() <= TEXT && recent.hold(text).is_ok()
-}
 
 /// Writes what is left of a block, and behind it a line with the notes in front.
 #[inline(always)]
@@ -47,85 +37,90 @@ fn print<'t, S: Sink>(
     ensures failures { S.failures sink.new ≡ counted (is_err result) (S.failures sink.old) }
 {
     block.write(sink)?;
-    write_whole(sink, note)?;
-    write_whole(sink, line)
+    write_held(sink, note)?;
+    write_held(sink, line)
 }
 
-/// Ends a line that may be in a block, and is held without its time.
+/// Ends a line that may be in a block. It is known where its time has its end.
 #[inline(always)]
-fn end_text<'t, S: Sink>(
-    line: &'t [u8],
-    note: &'t [u8],
+fn end_text<S: Sink>(
+    line: &mut Vec<u8>,
+    note: &[u8],
     zero: Zero,
     recent: &mut Recent,
     block: &mut Block,
     sink: &mut S,
 ) -> Result<(), SinkFault>
     requires failures { S.failures sink.old < 2 ^ 64 - 1 }
-    requires next { recent.old.next.items ≡ without_time line.now }
-    requires line { ends_line line.now ≡ true }
+    requires start { drop recent.old.start line.old.items ≡ without_time line.old.items }
+    requires line { ends_line line.old.items ≡ true }
     requires note { are_notes note.now ≡ true }
     ensures told { OnOk result (TellsMore (S.told sink.old) (S.told sink.new)) }
     ensures folds { OnOk result ((run output output' : List ℕ) → S.told sink.old ≡ Some output →
-        S.told sink.new ≡ Some output' → Folds run output line.now recent.old block.old →
+        S.told sink.new ≡ Some output' → Folds run output line.old.items recent.old block.old →
         Folds run output' [] recent.new block.new) }
+    ensures line { OnOk result (line.new.items ≡ []) }
     ensures failures { S.failures sink.new ≡ counted (is_err result) (S.failures sink.old) }
 {
-    if recent.is_again(block.size()) && block.has_room(note, line) {
-        block.take(note, line, zero);
-        recent.push();
+    let bytes = line.as_slice();
+    if recent.is_again(block.size(), bytes) && block.has_room(note, bytes) {
+        block.take(note, bytes, zero);
+        recent.push(line);
         return Ok(());
     }
-    print(line, note, block, sink)?;
-    recent.push();
+    print(bytes, note, block, sink)?;
+    recent.push(line);
     block.begin(recent.block());
     Ok(())
 }
 
 /// Ends a line that is too long for a block.
-fn end_long<'t, S: Sink>(
-    line: &'t [u8],
-    note: &'t [u8],
+fn end_long<S: Sink>(
+    line: &mut Vec<u8>,
+    note: &[u8],
     recent: &mut Recent,
     block: &mut Block,
     sink: &mut S,
 ) -> Result<(), SinkFault>
     requires failures { S.failures sink.old < 2 ^ 64 - 1 }
-    requires line { ends_line line.now ≡ true }
+    requires line { ends_line line.old.items ≡ true }
     requires note { are_notes note.now ≡ true }
     ensures told { OnOk result (TellsMore (S.told sink.old) (S.told sink.new)) }
     ensures folds { OnOk result ((run output output' : List ℕ) → S.told sink.old ≡ Some output →
-        S.told sink.new ≡ Some output' → Folds run output line.now recent.old block.old →
+        S.told sink.new ≡ Some output' → Folds run output line.old.items recent.old block.old →
         Folds run output' [] recent.new block.new) }
+    ensures line { OnOk result (line.new.items ≡ []) }
     ensures failures { S.failures sink.new ≡ counted (is_err result) (S.failures sink.old) }
 {
-    print(line, note, block, sink)?;
+    print(line.as_slice(), note, block, sink)?;
     recent.clear();
     block.begin(0);
+    line.clear();
     Ok(())
 }
 
 /// Ends a line, with the notes in front of it: it is held, where it comes again in a block that does, or written. Beside the time of a
-/// block stands the time of day, by the date of 0 ms.
+/// block stands the time of day, by the date of 0 ms. What is left of the line is empty.
 #[inline(always)]
-pub(crate) fn end_line<'t, S: Sink>(
-    line: &'t [u8],
-    note: &'t [u8],
+pub(crate) fn end_line<S: Sink>(
+    line: &mut Vec<u8>,
+    note: &[u8],
     zero: Zero,
     recent: &mut Recent,
     block: &mut Block,
     sink: &mut S,
 ) -> Result<(), SinkFault>
     requires failures { S.failures sink.old < 2 ^ 64 - 1 }
-    requires line { ends_line line.now ≡ true }
+    requires line { ends_line line.old.items ≡ true }
     requires note { are_notes note.now ≡ true }
     ensures told { OnOk result (TellsMore (S.told sink.old) (S.told sink.new)) }
     ensures folds { OnOk result ((run output output' : List ℕ) → S.told sink.old ≡ Some output →
-        S.told sink.new ≡ Some output' → Folds run output line.now recent.old block.old →
+        S.told sink.new ≡ Some output' → Folds run output line.old.items recent.old block.old →
         Folds run output' [] recent.new block.new) }
+    ensures line { OnOk result (line.new.items ≡ []) }
     ensures failures { S.failures sink.new ≡ counted (is_err result) (S.failures sink.old) }
 {
-    if holds(line, recent) {
+    if recent.measure(line.as_slice()) <= TEXT {
         return end_text(line, note, zero, recent, block, sink);
     }
     end_long(line, note, recent, block, sink)

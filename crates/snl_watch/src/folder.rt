@@ -3,13 +3,14 @@
 ghost use Rattle.std.specs.Prelude.{◌≡◌, ◌↔◌, ◌-◌, ◌+◌, ◌^◌, ◌<◌, ◌≤◌, ℕ, List, [], ◌++◌, Some, IsTrue, false, true, is_err, length, take, IfOk, OnOk, OnErr};
 ghost use Rattle.std.proofs.Props.{props};
 ghost use Rattle.snl_output.specs.Devices.{Wrote, counted, told_more, write_fails};
-ghost use Rattle.snl_watch.specs.Folding.{IsFolded, are_notes};
+ghost use Rattle.snl_watch.specs.Folding.{IsFolded};
 ghost use Rattle.snl_watch.specs.Folds.{Folds, ends_line, is_in_line};
+ghost use Rattle.snl_watch.specs.Recents.{recent_texts};
 
 use crate::block::Block;
 use crate::folded_line::{end_line, noted};
 use crate::line_ends::{ends_line, first_line};
-use crate::note_buffer::ROOM;
+use crate::note_buffer::LineNotes;
 use crate::notes::Notes;
 use crate::recent::Recent;
 use crate::writer::write_pieces;
@@ -27,7 +28,7 @@ pub struct Folder<'c, K: Sink, W: Sink> {
     /// The line that has begun, with its newline once it is whole.
     line: Vec<u8>,
     /// The notes in front of it.
-    note: Vec<u8>,
+    note: LineNotes,
     recent: Recent,
     block: Block,
     notes: Notes<'c>,
@@ -37,10 +38,17 @@ pub struct Folder<'c, K: Sink, W: Sink> {
     ran_out: bool,
     /// Whether the sink failed, or the run is over.
     is_over: bool,
-    ghost noted: { are_notes note.items ≡ true },
     ghost folds: { is_over ≡ false → (run output : List ℕ) → W.told witness ≡ Some run
         → K.told inner ≡ Some output
         → ∥ Folds run output line.items recent block ∥₁ } by { Prim.hlevel props },
+}
+
+/// Room for the last lines, and for the notes in front of a line. Fails only where memory ran out.
+fn rooms(alloc: Global) -> Result<(Recent, LineNotes), AllocError>
+    ensures { IfOk result (λ rooms. recent_texts rooms.0 ≡ []) }
+{
+    let recent = Recent::new(alloc)?;
+    Ok((recent, LineNotes::new(alloc)?))
 }
 
 impl<'c, K: Sink, W: Sink> Folder<'c, K, W> {
@@ -55,12 +63,12 @@ impl<'c, K: Sink, W: Sink> Folder<'c, K, W> {
         ensures witness { IfOk result (λ folder. folder.witness ≡ witness) }
         ensures refused { IfOk result (λ folder. folder.refused ≡ 0) }
     {
-        let recent = Recent::new(alloc)?;
+        let (recent, note) = rooms(alloc)?;
         Ok(Folder {
             inner,
             witness,
             line: Vec::new(alloc),
-            note: Vec::with_capacity(alloc, ROOM)?,
+            note,
             recent,
             block: Block::none(),
             notes,
@@ -90,14 +98,13 @@ impl<'c, K: Sink, W: Sink> Folder<'c, K, W> {
         self.is_over = true;
         let zero = self.notes.zero();
         end_line(
-            self.line.as_slice(),
+            &mut self.line,
             self.note.as_slice(),
             zero,
             &mut self.recent,
             &mut self.block,
             &mut self.inner,
         )?;
-        self.line.clear();
         self.is_over = false;
         Ok(())
     }

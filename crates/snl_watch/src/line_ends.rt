@@ -142,6 +142,14 @@ pub fn count_lines(text: &[u8]) -> u64 {
     }
 }
 
+/// A line without its time, the digits that it begins with.
+#[inline(always)]
+pub(crate) fn text_of(line: &[u8]) -> &[u8]
+    ensures { result.now ≡ without_time line.now }
+{
+    &line[digits_of(line)..]
+}
+
 /// How many digits a line begins with.
 #[inline(always)]
 pub(crate) fn digits_of(line: &[u8]) -> usize

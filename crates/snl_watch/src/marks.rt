@@ -3,13 +3,13 @@
 //! A block that came twice ends with lines that stand so many lines before them, too. To look for it among all sizes takes
 //! long, so lines are found by a number that is made of the last four: most have no other like it.
 
-use std::alloc::{AllocError, Global};
+ghost use Rattle.std.specs.Prelude.{◌<◌};
 
 /// How many lines are kept: a power of two, above two blocks.
-const KEPT: u64 = 128;
+const KEPT: usize = 128;
 
 /// How many places there are for lines, by the number of the last four.
-const PLACES: u64 = 256;
+const PLACES: usize = 256;
 
 /// How many of these bits a line takes of a number of 64 bits.
 const SHIFT: u32 = 56;
@@ -24,11 +24,13 @@ pub(crate) const TOGETHER: usize = 4;
 #[derive(Drop)]
 pub(crate) struct LineMarks {
     /// Of each line, by its place among all lines modulo 128.
-    marks: Vec<u64>,
+    marks: [u64; KEPT],
     /// How many lines before it one stands whose last four have the same place; 0 where that is not among the last.
-    steps: Vec<u64>,
+    steps: [u64; KEPT],
     /// By the number of the last four: how many lines there were when it came last.
-    places: Vec<u64>,
+    places: [u64; PLACES],
+    /// By a size below four: how many of the last lines, one behind the other, have the number of the one so many before them.
+    likes: [u64; TOGETHER],
     /// How many lines there were.
     count: u64,
 }
@@ -51,61 +53,74 @@ fn short_mark(text: &[u8]) -> u64 {
     mark
 }
 
-/// The number at a place; 0 where there is no such place.
-fn at(numbers: &Vec<u64>, place: u64) -> u64 {
-    match numbers.get(place as usize) {
-        Some(number) => *number,
-        None => 0,
-    }
-}
-
-/// Puts a number at a place.
-fn put(numbers: &mut Vec<u64>, place: u64, number: u64) {
-    if let Some(room) = numbers.get_mut(place as usize) {
-        *room = number;
-    }
+/// Where a line stands among those that are kept, by its place among all lines.
+#[inline(always)]
+fn kept_at(place: u64) -> usize
+    ensures { result < 128 }
+{
+    (place % KEPT as u64) as usize
 }
 
 impl LineMarks {
-    /// Of no line. Fails only where memory ran out.
-    pub(crate) fn new(alloc: Global) -> Result<Self, AllocError> {
-        Ok(LineMarks {
-            marks: vec![in alloc; 0u64; KEPT as usize]?,
-            steps: vec![in alloc; 0u64; KEPT as usize]?,
-            places: vec![in alloc; 0u64; PLACES as usize]?,
+    /// Of no line.
+    pub(crate) fn new() -> Self {
+        LineMarks {
+            marks: [0; KEPT],
+            steps: [0; KEPT],
+            places: [0; PLACES],
+            likes: [0; TOGETHER],
             count: 0,
-        })
+        }
     }
 
     /// The number of the line that has so many behind it.
+    #[inline(always)]
     fn mark(&self, behind: usize) -> u64 {
-        at(
-            &self.marks,
-            self.count.wrapping_sub((behind as u64).wrapping_add(1)) % KEPT,
-        )
+        let before = (behind as u64).wrapping_add(1);
+        self.marks[kept_at(self.count.wrapping_sub(before))]
     }
 
     /// The place of the last four lines.
-    fn place(&self) -> u64 {
+    #[inline(always)]
+    fn place(&self) -> usize
+        ensures { result < 256 }
+    {
         let first = self.mark(0) ^ self.mark(1).rotate_left(16);
         let second = self.mark(2).rotate_left(32) ^ self.mark(3).rotate_left(48);
-        (first ^ second).wrapping_mul(SPREAD) >> SHIFT
+        let spread = (first ^ second).wrapping_mul(SPREAD) >> SHIFT;
+        (spread % PLACES as u64) as usize
     }
 
     /// Adds a line.
     pub(crate) fn push(&mut self, text: &[u8]) {
-        put(&mut self.marks, self.count % KEPT, mark_of(text));
+        self.marks[kept_at(self.count)] = mark_of(text);
         self.count = self.count.wrapping_add(1);
+        self.count_likes();
         let place = self.place();
-        let step = self.count.wrapping_sub(at(&self.places, place));
-        let step = if step < KEPT { step } else { 0 };
-        put(&mut self.steps, self.count % KEPT, step);
-        put(&mut self.places, place, self.count);
+        let step = self.count.wrapping_sub(self.places[place]);
+        self.steps[kept_at(self.count)] = if step < KEPT as u64 { step } else { 0 };
+        self.places[place] = self.count;
     }
 
-    /// Whether the last line has the number of the one so many before it.
-    pub(crate) fn is_like(&self, size: usize) -> bool {
-        self.mark(0) == self.mark(size)
+    /// Counts the last line among those that have the number of the one so many before them, for each size below four.
+    #[inline(always)]
+    fn count_likes(&mut self) {
+        let last = self.mark(0);
+        for size in 1..TOGETHER {
+            self.likes[size] = if self.mark(size) == last {
+                self.likes[size].wrapping_add(1)
+            } else {
+                0
+            };
+        }
+    }
+
+    /// Whether the last lines, so many, fewer than four, have the numbers of those before them.
+    #[inline(always)]
+    pub(crate) fn are_few_like(&self, size: usize) -> bool
+        requires { size < 4 }
+    {
+        self.likes[size] >= size as u64
     }
 
     /// Whether the last lines, so many, have the numbers of those before them.
@@ -119,7 +134,8 @@ impl LineMarks {
     }
 
     /// How many lines before the line that has so many behind it one like it stands; 0 where there is none.
+    #[inline(always)]
     pub(crate) fn step(&self, behind: usize) -> usize {
-        at(&self.steps, self.count.wrapping_sub(behind as u64) % KEPT) as usize
+        self.steps[kept_at(self.count.wrapping_sub(behind as u64))] as usize
     }
 }

@@ -1,5 +1,9 @@
-//! Notes that wait for the next line of a run, in room that is never made anew.
+//! Notes that wait for the next line of a run, and those in front of a line, in room that is never made anew.
 
+ghost use Rattle.std.specs.Prelude.{◌≡◌, ◌≤◌, length, take, true};
+ghost use Rattle.snl_watch.specs.Folding as spec;
+
+use crate::noted::are_notes;
 use std::alloc::{AllocError, Global};
 use std::mem;
 
@@ -7,7 +11,7 @@ use std::mem;
 const WAITING: usize = 512;
 
 /// How many bytes the room for them has: also for the line that says that there are more.
-pub(crate) const ROOM: usize = 523;
+const ROOM: usize = 523;
 
 /// What stands where notes were left out.
 const MORE: &[u8] = b"# and more\n";
@@ -93,12 +97,46 @@ impl Waiting {
     pub(crate) fn put_back(&mut self, room: Vec<u8>) {
         self.room = room;
     }
+}
 
-    /// Moves the notes that wait to another room, in the place of what stood there; none where that is too small.
-    pub(crate) fn move_to(&mut self, room: &mut Vec<u8>) {
-        room.clear();
-        let _moved = room.extend_from_slice(taken(&self.room, self.used));
-        self.is_full = false;
+/// Notes in front of a line: extra lines and nothing else, of which none reads as the line of a fold.
+#[derive(Drop)]
+pub(crate) struct LineNotes {
+    room: Vec<u8>,
+    /// How many bytes of the room are taken.
+    used: usize,
+    ghost within: { used ≤ length room.items },
+    ghost noted: { spec.are_notes (take used room.items) ≡ true },
+}
+
+impl LineNotes {
+    /// No note. Fails only where memory ran out.
+    pub(crate) fn new(alloc: Global) -> Result<Self, AllocError> {
+        Ok(LineNotes {
+            room: vec![in alloc; 0u8; ROOM]?,
+            used: 0,
+        })
+    }
+
+    /// The notes.
+    #[inline(always)]
+    pub(crate) fn as_slice(&self) -> &[u8]
+        ensures { spec.are_notes result.now ≡ true }
+    {
+        &self.room[..self.used]
+    }
+
+    /// Takes the notes that wait, where they are such; else none. What stood here is gone. Both rooms are exchanged.
+    #[inline(always)]
+    pub(crate) fn take(&mut self, waiting: &mut Waiting) {
         self.used = 0;
+        let used = waiting.used;
+        waiting.is_full = false;
+        waiting.used = 0;
+        if used == 0 || used > waiting.room.len() || !are_notes(&waiting.room[..used]) {
+            return;
+        }
+        mem::swap(&mut self.room, &mut waiting.room);
+        self.used = used;
     }
 }

@@ -9,6 +9,9 @@ use crate::places::{LinePlace, is_dropped_line};
 fn begins_fold(text: &[u8]) -> bool
     ensures { result ≡ spec.begins_fold text.now }
 {
+    if text.get(2).copied().unwrap_or(0) != b't' {
+        return false;
+    }
     text.starts_with(b"# this line ")
         || (text.starts_with(b"# these ") && text.get(8).copied().unwrap_or(0).is_ascii_digit())
 }

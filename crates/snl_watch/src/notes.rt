@@ -1,17 +1,12 @@
 //! Notes about a run: which clause fired and what its condition saw, and which put was refused and why.
 
-ghost use Rattle.std.specs.Prelude.{◌≡◌, true};
-ghost use Rattle.snl_watch.specs.Folding as spec;
-
 use crate::current_states::Standing;
 use crate::legend::{ClauseLegend, Legend};
 use crate::line_ends::ends_line;
 use crate::lines::line_number;
-use crate::note_buffer::Waiting;
-use crate::noted::are_notes;
+use crate::note_buffer::{LineNotes, Waiting};
 use crate::progress::Progress;
-use crate::zero::{BESIDE, Zero};
-use arrayvec::ArrayVec;
+use crate::zero::Zero;
 use itoa::Buffer;
 use snl_output::{Fired, RefusalCause, Refused, Went};
 use snl_units::ChannelUnits;
@@ -40,6 +35,7 @@ pub struct Notes<'c> {
 }
 
 /// Adds a number.
+#[inline(always)]
 fn add_number(out: &mut Waiting, number: i64) -> Option<()> {
     let mut digits = Buffer::new();
     out.add(digits.format(number).as_bytes())
@@ -73,21 +69,23 @@ fn add_value(out: &mut Waiting, units: Option<&ChannelUnits>, number: i64) -> Op
 }
 
 /// A time of a run: the line of the trace that came then, where one did, and the time of day behind a comma, where that is known.
-#[derive(Drop)]
-struct Moment {
+#[derive(Clone, Copy)]
+struct Moment<'m> {
     line: Option<u128>,
-    clock: ArrayVec<u8, BESIDE>,
+    clock: &'m [u8],
 }
 
 /// Adds the end of a note: the line of the trace and the time of day, in brackets.
-fn add_end(out: &mut Waiting, moment: &Moment) -> Option<()> {
-    let clock = moment.clock.as_slice();
-    match (moment.line, clock) {
+fn add_end(out: &mut Waiting, moment: Moment<'_>) -> Option<()> {
+    let Moment { line, clock } = moment;
+    match (line, clock) {
         (Some(line), _) => {
             let mut digits = Buffer::new();
             out.add(b" (trace line ")?;
             out.add(digits.format(line).as_bytes())?;
-            out.add(clock)?;
+            if !clock.is_empty() {
+                out.add(clock)?;
+            }
         }
         (None, [b',', b' ', time @ ..]) => {
             out.add(b" (")?;
@@ -98,15 +96,12 @@ fn add_end(out: &mut Waiting, moment: &Moment) -> Option<()> {
     out.add(b")\n")
 }
 
-/// A time to which a run has come. What comes of a wake has an earlier time than the line that is at work.
-fn moment_at(at_work: AtWork, zero: Zero, ms: u64) -> Moment {
-    Moment {
-        line: if at_work.ms == ms {
-            Some(at_work.number)
-        } else {
-            None
-        },
-        clock: zero.beside(ms),
+/// The line of the trace that came at a time. What comes of a wake has an earlier time than the line that is at work.
+fn line_at(at_work: AtWork, ms: u64) -> Option<u128> {
+    if at_work.ms == ms {
+        Some(at_work.number)
+    } else {
+        None
     }
 }
 
@@ -116,7 +111,7 @@ fn add_clause(
     legend: &Legend<'_>,
     clause: &ClauseLegend,
     words: &[i64],
-    moment: &Moment,
+    moment: Moment<'_>,
 ) -> Option<()> {
     out.add(clause.front.as_slice())?;
     for seen in &clause.seen {
@@ -181,8 +176,12 @@ impl<'c> Notes<'c> {
             return;
         };
         let before = self.waiting.len();
-        let moment = moment_at(self.at_work, self.zero, fired.ms);
-        let added = add_clause(&mut self.waiting, &self.legend, clause, words, &moment);
+        let clock = self.zero.beside(fired.ms);
+        let moment = Moment {
+            line: line_at(self.at_work, fired.ms),
+            clock: clock.as_slice(),
+        };
+        let added = add_clause(&mut self.waiting, &self.legend, clause, words, moment);
         self.waiting.settle(before, added);
     }
 
@@ -241,19 +240,10 @@ impl<'c> Notes<'c> {
         self.waiting.put_back(room);
     }
 
-    /// Puts the notes that wait into a room, where they are extra lines and nothing else, of which none reads as the line of a fold;
-    /// else none. What stood there is gone.
-    pub(crate) fn put_noted(&mut self, room: &mut Vec<u8>)
-        ensures { spec.are_notes room.new.items ≡ true }
-    {
-        if self.waiting.is_empty() {
-            room.clear();
-            return;
-        }
-        self.waiting.move_to(room);
-        if !are_notes(room.as_slice()) {
-            room.clear();
-        }
+    /// The notes that wait stand in front of a line, where they are extra lines and nothing else, of which none reads as the line of a
+    /// fold; else none. Those that stood there are gone.
+    pub(crate) fn put_noted(&mut self, line: &mut LineNotes) {
+        line.take(&mut self.waiting);
     }
 
     /// What the notes name.

@@ -1,8 +1,10 @@
-//! The last lines of a run, without their times, and whether the last of them repeat.
+//! The last lines of a run, and whether the last of them repeat but for their times.
 
-ghost use Rattle.std.specs.Prelude.{◌≡◌, ◌≤◌, ◌<◌, ◌-◌, [], ◌∷◌, ◌++◌, length, slice_get, IfOk, IsTrue, OnOk, Some};
+ghost use Rattle.std.specs.Prelude.{◌≡◌, ◌≤◌, ◌<◌, ◌-◌, [], ◌∷◌, ◌++◌, drop, length, slice_get, IfOk, IsTrue, Some};
 ghost use Rattle.circular_buffer.specs.Buffer.{keep_last};
+ghost use Rattle.snl_watch.specs.Folding.{without_time};
 
+use crate::line_ends::{digits_of, text_of};
 use crate::marks::{LineMarks, TOGETHER};
 use circular_buffer::HeapCircularBuffer;
 use std::alloc::{AllocError, Global};
@@ -14,15 +16,26 @@ const BLOCK: usize = 60;
 /// How many lines are kept.
 const KEPT: usize = 120;
 
-/// The last lines of a run, without their times.
+/// The last lines of a run.
 #[derive(Drop)]
 pub(crate) struct Recent {
     alloc: Global,
-    texts: HeapCircularBuffer<Vec<u8>>,
-    /// A number of each, by which most lines differ.
+    lines: HeapCircularBuffer<Vec<u8>>,
+    /// A number of each without its time, by which most lines differ.
     marks: LineMarks,
-    /// A line that comes, without its time. Its room is that of the line that was forgotten last.
-    next: Vec<u8>,
+    /// Where the time of a line that comes has its end.
+    start: usize,
+}
+
+/// What stands in a line from a place on.
+#[inline(always)]
+fn behind(line: &[u8], place: usize) -> &[u8]
+    ensures { result.now ≡ drop place line.now }
+{
+    match line.get(place..) {
+        Some(rest) => rest,
+        None => b"",
+    }
 }
 
 impl Recent {
@@ -32,34 +45,37 @@ impl Recent {
     pub(crate) fn new(alloc: Global) -> Result<Self, AllocError>
         ensures { IfOk result (λ recent. recent_texts recent ≡ []) }
     {
-        let texts = HeapCircularBuffer::with_capacity(alloc, KEPT)?;
-        let marks = LineMarks::new(alloc)?;
+        let lines = HeapCircularBuffer::with_capacity(alloc, KEPT)?;
         Ok(Recent {
             alloc,
-            texts,
-            marks,
-            next: Vec::new(alloc),
+            lines,
+            marks: LineMarks::new(),
+            start: 0,
         })
     }
 
-    /// Takes a line that comes, without its time. Fails only where memory ran out.
-    pub(crate) fn hold(&mut self, text: &[u8]) -> Result<(), AllocError>
-        ensures next { OnOk result (self.new.next.items ≡ text.now) }
-        ensures texts { self.new.texts ≡ self.old.texts }
+    /// Looks where the time of a line that comes has its end. Answers how many bytes it has behind that.
+    #[inline(always)]
+    pub(crate) fn measure(&mut self, line: &[u8]) -> usize
+        ensures start { drop self.new.start line.now ≡ without_time line.now }
+        ensures lines { self.new.lines ≡ self.old.lines }
     {
-        self.next.clear();
-        self.next.extend_from_slice(text)
+        self.start = digits_of(line);
+        line.len() - self.start
     }
 
-    /// Adds the line that came, in the place of the oldest where there is no room.
-    pub(crate) fn push(&mut self)
-        ensures { recent_texts self.new ≡ keep_last self.old.texts.capacity
-            (recent_texts self.old ++ self.old.next.items ∷ []) }
+    /// Adds the line that came, which is taken, in the place of the oldest where there is no room. What is left of it is empty, and has
+    /// the room of the oldest.
+    pub(crate) fn push(&mut self, line: &mut Vec<u8>)
+        ensures texts { recent_texts self.new ≡ keep_last self.old.lines.capacity
+            (recent_texts self.old ++ without_time line.old.items ∷ []) }
+        ensures empty { line.new.items ≡ [] }
     {
-        self.marks.push(self.next.as_slice());
-        let text = mem::replace(&mut self.next, Vec::new(self.alloc));
-        if let Some(oldest) = self.texts.push_back(text) {
-            self.next = oldest;
+        self.marks.push(behind(line.as_slice(), self.start));
+        let whole = mem::replace(line, Vec::new(self.alloc));
+        if let Some(oldest) = self.lines.push_back(whole) {
+            *line = oldest;
+            line.clear();
         }
     }
 
@@ -67,31 +83,31 @@ impl Recent {
     pub(crate) fn clear(&mut self)
         ensures { recent_texts self.new ≡ [] }
     {
-        self.texts.clear();
+        self.lines.clear();
     }
 
-    /// Whether the line that came equals the one that many lines before it.
+    /// Whether the line that came equals the one that many lines before it, but for its time.
     #[inline(always)]
-    pub(crate) fn is_again(&self, size: usize) -> bool
+    pub(crate) fn is_again(&self, size: usize, line: &[u8]) -> bool
         ensures some { IsTrue result → 0 < size }
         ensures within { IsTrue result → size ≤ length (recent_texts self.now) }
         ensures same { IsTrue result → slice_get (recent_texts self.now)
-            (length (recent_texts self.now) - size) ≡ Some self.now.next.items }
+            (length (recent_texts self.now) - size) ≡ Some (drop self.now.start line.now) }
     {
-        let count = self.texts.len();
+        let count = self.lines.len();
         if size == 0 || size > count {
             return false;
         }
-        match self.texts.get(count - size) {
-            Some(before) => before.as_slice() == self.next.as_slice(),
+        match self.lines.get(count - size) {
+            Some(before) => text_of(before.as_slice()) == behind(line, self.start),
             None => false,
         }
     }
 
-    /// Whether two lines are equal, by how many come behind them.
+    /// Whether two lines are equal but for their times, by how many come behind them.
     fn are_equal(&self, last: usize, before: usize) -> bool {
-        match (self.texts.nth_back(last), self.texts.nth_back(before)) {
-            (Some(last), Some(before)) => last.as_slice() == before.as_slice(),
+        match (self.lines.nth_back(last), self.lines.nth_back(before)) {
+            (Some(last), Some(before)) => text_of(last.as_slice()) == text_of(before.as_slice()),
             _ => false,
         }
     }
@@ -112,7 +128,7 @@ impl Recent {
     /// The size of the shortest block below four lines that came twice, now; None where there is none.
     fn short_block(&self, most: usize) -> Option<usize> {
         for size in 1..TOGETHER {
-            if size <= most && self.marks.is_like(size) && self.repeats(size) {
+            if size <= most && self.marks.are_few_like(size) && self.repeats(size) {
                 return Some(size);
             }
         }
@@ -143,7 +159,7 @@ impl Recent {
     pub(crate) fn block(&self) -> usize
         ensures { result ≤ length (recent_texts self.now) }
     {
-        let most = BLOCK.min(self.texts.len() / 2);
+        let most = BLOCK.min(self.lines.len() / 2);
         let size = self.short_block(most).or_else(|| self.long_block(most));
         size.unwrap_or(0).min(most)
     }

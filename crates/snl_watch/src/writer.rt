@@ -18,8 +18,22 @@ pub(crate) fn write_pieces<S: Sink>(sink: &mut S, pieces: &[&[u8]]) -> Result<()
     line.send(sink)
 }
 
+/// Hands a piece to a sink: in one step, where that holds all of it.
+#[inline(always)]
+pub(crate) fn write_held<S: Sink>(sink: &mut S, piece: &[u8]) -> Result<(), SinkFault>
+    requires { S.failures sink.old < 2 ^ 64 - 1 }
+    ensures told { Wrote result piece.now (S.told sink.old) (S.told sink.new) }
+    ensures failures { S.failures sink.new ≡ counted (is_err result) (S.failures sink.old) }
+{
+    if sink.hold(piece) {
+        return Ok(());
+    }
+    write_whole(sink, piece)
+}
+
 /// Hands a piece to a sink until it has taken all of it, however few bytes it takes a call.
-pub(crate) fn write_whole<S: Sink>(sink: &mut S, piece: &[u8]) -> Result<(), SinkFault>
+#[inline(never)]
+fn write_whole<S: Sink>(sink: &mut S, piece: &[u8]) -> Result<(), SinkFault>
     requires { S.failures sink.old < 2 ^ 64 - 1 }
     ensures told { Wrote result piece.now (S.told sink.old) (S.told sink.new) }
     ensures failures { S.failures sink.new ≡ counted (is_err result) (S.failures sink.old) }

@@ -73,21 +73,27 @@ impl Zero {
 
     /// The time of day of a time of the trace, behind a comma: `, 09:15:10.300`. On another day than that of 0 ms the date stands in
     /// front of it: `, 2026-03-03T09:15:10.300`. Nothing where the trace tells no date.
+    #[inline(always)]
     pub fn beside(self, ms: u64) -> ArrayVec<u8, BESIDE> {
-        let mut text = ArrayVec::new();
-        let Some(zero) = self.ms else {
-            return text;
-        };
-        let there = zero.saturating_add(ms);
-        let Some(date) = date_digits(there / DAY) else {
-            return text;
-        };
-        add(&mut text, b", ");
-        if there / DAY != zero / DAY {
-            add(&mut text, date.as_slice());
-            add(&mut text, b"T");
+        match self.ms {
+            Some(zero) => beside_date(zero, ms),
+            None => ArrayVec::new(),
         }
-        add(&mut text, day_digits(there).as_slice());
-        text
     }
+}
+
+/// The same, by the date of 0 ms in milliseconds since 1970.
+fn beside_date(zero: u64, ms: u64) -> ArrayVec<u8, BESIDE> {
+    let mut text = ArrayVec::new();
+    let there = zero.saturating_add(ms);
+    let Some(date) = date_digits(there / DAY) else {
+        return text;
+    };
+    add(&mut text, b", ");
+    if there / DAY != zero / DAY {
+        add(&mut text, date.as_slice());
+        add(&mut text, b"T");
+    }
+    add(&mut text, day_digits(there).as_slice());
+    text
 }

@@ -1,13 +1,11 @@
-use Rattle.std.proofs.Common.{◌≡◌, ◌∙◌, ap, sym, ℕ, List, refl, subst, true}
-use Rattle.snl_watch.specs.Folding.{are_notes}
+use Rattle.std.proofs.Common.{◌≡◌, ◌∙◌, sym, ℕ, List, refl, subst, true}
 use Rattle.snl_watch.specs.Folds.{Folds}
 use Rattle.snl_watch.proofs.FoldLaws.{folds-as, nothing}
 use Rattle.snl_watch.proofs.folder.Folder.new.Goals as goal
 
 pub invariant_of-result : goal.invariant_of-result
 invariant_of-result g c = record {
-  noted = ap are_notes c.in_ok-with_capacity.ensures.items;
   folds = λ over run output was now.
-      ∣ subst (λ o. Folds run o c.new-2.result.items c.in_ok-recent.recent c.none.result) (sym (c.requires.inner output now))
-      (folds-as _ run _ _ _ _ _ (sym (c.requires.witness run was)) (sym c.new-2.ensures.items) (nothing c.in_ok-recent.recent c.none.result c.in_ok-recent.ensures c.none.ensures)) ∣₁;
+      ∣ subst (λ o. Folds run o c.new.result.items c.in_ok-recent.recent c.none.result) (sym (c.requires.inner output now))
+      (folds-as _ run _ _ _ _ _ (sym (c.requires.witness run was)) (sym c.new.ensures.items) (nothing c.in_ok-recent.recent c.none.result c.in_ok-recent.ensures c.none.ensures)) ∣₁;
 }

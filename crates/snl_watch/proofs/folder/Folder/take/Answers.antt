@@ -10,7 +10,6 @@ invariant_of-self-in-Ok g c =
     let line : List ℕ = c.args.self.now.line.items in
     let n : ℕ = c.in-Ok.taken in
     record {
-      noted = c.args.self.now.noted;
       folds = λ over run output was now.
           let before = told-piece _ _ (take n front) run c.in-Ok.ensures.taken was in
           ∥∥₁_map (c.args.self.now.folds over before.0 output before.1 now) (λ f. folds-as _ run output _ _ _ _ before.2

@@ -1,9 +1,10 @@
-use Rattle.std.proofs.Common.{rules, ◌≡◌, ◌∙◌, sym, ap, ℕ, List, map, length, slice_get, option_map, Some, ◌-◌, true}
+use Rattle.std.proofs.Common.{rules, ◌≡◌, ◌∙◌, sym, ap, ℕ, List, map, length, slice_get, drop, option_map, Some, ◌-◌, true}
 use Rattle.std.proofs.lemmas.Bool.Decides.{Decides-eqb}
 use Rattle.std.proofs.lemmas.Slice.Eq.{slice_eq-Decides}
 use Rattle.std.proofs.lemmas.Option.{slice_get-map}
 use Rattle.std.proofs.lemmas.List.{length-map}
 use Rattle.arrayvec.specs.ArrayVec.{ArrayVec}
+use Rattle.snl_watch.specs.Folding.{without_time}
 use Rattle.snl_watch.specs.Recents.{recent_texts}
 use Rattle.snl_watch.proofs.recent.Recent.is_again.Goals as goal
 
@@ -15,5 +16,6 @@ text-at view xs size x text at same =
 
 pub returns-in-Some-clause-same : goal.returns-in-Some-clause-same
 returns-in-Some-clause-same c is =
-    text-at _ c.args.self.now.texts.items c.args.size c.in-Some.before.now c.args.self.now.next.items (search rules)
-    (sym c.as_slice.ensures.value ∙ (slice_eq-Decides Decides-eqb c.as_slice.result.now c.as_slice-in-Some.result.now c.eq.result c.eq.ensures).0 is ∙ c.as_slice-in-Some.ensures.value)
+    text-at _ c.args.self.now.lines.items c.args.size c.in-Some.before.now (drop c.args.self.now.start c.args.line.now) (search rules)
+    (ap without_time (sym c.as_slice.ensures.value) ∙ sym c.text_of.ensures
+    ∙ (slice_eq-Decides Decides-eqb c.text_of.result.now c.behind.result.now c.eq.result c.eq.ensures).0 is ∙ c.behind.ensures)
