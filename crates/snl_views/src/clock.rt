@@ -49,7 +49,7 @@ fn number_in_front(text: &[u8]) -> u64 {
 }
 
 /// The time at the front of a line; None where it is blank, a comment or begins with no number.
-fn time_of(line: &[u8]) -> Option<u64> {
+pub(crate) fn time_of(line: &[u8]) -> Option<u64> {
     match line {
         [b'0'..=b'9', ..] => Some(number_in_front(line)),
         [b' ' | b'\t', ..] => match line.fields().next()? {
@@ -103,6 +103,16 @@ impl Clock {
             self.step(number, ms);
         }
         self.last = ms;
+    }
+
+    /// Passes lines whose times do not go back, up to one of some time, where no step can be an hour; whether it did. Such steps
+    /// change nothing of what is told.
+    pub(crate) fn passes(&mut self, ms: u64) -> bool {
+        if self.first.is_none() || ms < self.last || ms - self.last >= HOUR {
+            return false;
+        }
+        self.last = ms;
+        true
     }
 
     /// The same, of which no jump is known.

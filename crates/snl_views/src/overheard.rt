@@ -1,9 +1,10 @@
 //! What is overheard of a trace while its bytes go to a run: its times, and the text of a bad line.
 
 use crate::bad_lines::push_note;
-use crate::clock::Clock;
+use crate::clock::{Clock, time_of};
 use bstr::ByteSlice;
 use snl_trace::{End, LINE_LIMIT};
+use snl_watch::count_lines;
 use std::alloc::{AllocError, Global};
 
 /// How many bytes of a trace are held: those of the piece that came last, and the line that had begun before it.
@@ -21,8 +22,29 @@ pub struct Overheard {
     clock: Clock,
 }
 
-/// Notes the times of lines, of which so many came before. Answers how many came then.
+/// The time of the last line of a text that ends with a newline; None where that is no event.
+fn last_time(text: &[u8]) -> Option<u64> {
+    let front = text.strip_suffix(b"\n")?;
+    let begin = match front.rfind_byte(b'\n') {
+        Some(at) => at.saturating_add(1).min(front.len()),
+        None => 0,
+    };
+    time_of(&front[begin..])
+}
+
+/// Notes the times of lines that were read, of which so many came before. Answers how many came then. A run reads on only where no
+/// time went back, so that lines with a step of less than an hour from the first to the last need not be looked at one by one.
 fn noted(clock: &mut Clock, before: u64, text: &[u8]) -> u64 {
+    if let Some(ms) = last_time(text) {
+        if clock.passes(ms) {
+            return before.saturating_add(count_lines(text));
+        }
+    }
+    noted_each(clock, before, text)
+}
+
+/// The same, line by line.
+fn noted_each(clock: &mut Clock, before: u64, text: &[u8]) -> u64 {
     let mut number = before;
     for line in text.lines() {
         number = number.saturating_add(1);
