@@ -30,6 +30,7 @@ pub mod SettledLines
 pub mod SettledWords
 pub mod SettledSteps
 pub mod SettledPieces
+pub mod SparedPieces
 pub mod Checks
 pub mod Checked
 pub mod QuietChecked

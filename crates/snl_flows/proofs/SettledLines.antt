@@ -115,5 +115,5 @@ module _ (p : ProgramTree) (ls : List Link) (c : Code) (free : List ℕ) (values
 pub lines_settle : LinesSettle
 lines_settle p ls c free values waits budget ms event w right some can pieces known there s =
     subst (λ (r : Ran Live). IsSettled free values (layout_for p ls) (world_after r))
-    (unreached_do_nothing p ls waits (holds_in (table_of c)) budget ms event w (reached_are_closed p (holds_in (table_of c)) right.reached) there.reached)
+    (unreached_do_nothing p ls waits (holds_in (table_of c)) budget ms event w (reached_are_closed p (holds_in (table_of c)) right.reached) there)
     (line-settles p ls c free values some can pieces waits budget ms event known w s)

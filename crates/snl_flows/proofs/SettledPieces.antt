@@ -7,8 +7,9 @@ use Rattle.snl_emit.specs.Depths.{block_depth, expression_depth}
 use Rattle.snl_flat.specs.declared.code.Code.{Code}
 use Rattle.snl_flat.specs.Copies.{held_sets}
 use Rattle.snl_flat.specs.Heres.{for_each_set, name_by, outlines_in, placed_in, scene_in}
-use Rattle.snl_flat.specs.Pieces.{IsCodeOf, IsPieceAt, IsPlaced, PieceTree, Test, Action}
-use Rattle.snl_flat.specs.Starts.{entries_of, start_in, table_of}
+use Rattle.snl_flat.specs.declared.starts.Piece.{Piece}
+use Rattle.snl_flat.specs.Pieces.{IsCodeOf, IsPieceAt, IsPlaced, PieceTree, Test, Action, kept_piece}
+use Rattle.snl_flat.specs.Starts.{entries_of, holds_in, start_in, table_of}
 use Rattle.snl_load.specs.Places.{home_in, placed_sets}
 use Rattle.snl_meaning.specs.declared.faults.Fault.{Fault}
 use Rattle.snl_meaning.specs.declared.instrs.Instr.{Instr}
@@ -28,7 +29,7 @@ use Rattle.snl_syntax.specs.Expressions.{ExprTree}
 use Rattle.snl_syntax.specs.Programs.{ProgramTree, StateSetTree}
 use Rattle.snl_syntax.specs.Statements.{BlockTree}
 use Rattle.snl_flows.specs.Fine.{IsFineAt}
-use Rattle.snl_flows.specs.Flows.{NothingIsLeftOut, ground_of}
+use Rattle.snl_flows.specs.Flows.{NothingIsLeftOut, ground_of, set_of}
 use Rattle.snl_flows.specs.LeftOut.{IsLeftOut}
 use Rattle.snl_flows.specs.Settled.{CanBeFree, IsSettled, Layout, PieceSettles, layout_for}
 use Rattle.snl_flows.specs.Tables.{Operand, Another, Same, Within, CanBe, Facts, Flow, Ground, HasLinks, IsReached, below, facts_at, first_facts, top_of}
@@ -216,28 +217,45 @@ module _ (p : ProgramTree) (ls : List Link) (c : Code) (free : List ℕ) (values
         links = linked w s;
       }) s
 
+-- ---- any run
+
+module _ (p : ProgramTree) (ls : List Link) (c : Code) (free : List ℕ) (values : List (List (List ℤ))) (code-is : IsCodeOf p c) (set start : ℕ)
+    (runs : (room : ℕ) (w : World) → IsSettled free values (layout_for p ls) w →
+    IsSettled free values (layout_for p ls) (world_after (run_of (context_of (scene_in p set) (entries_of c) room) c.instrs.items start w))) where
+  -- links are settled
+  abbrev SettledBy : World → Type 0
+  SettledBy = IsSettled free values (layout_for p ls)
+
   -- a condition,
-  test-settles : (x : ExprTree) → IsPieceAt p c.instrs.items (entries_of c) start (Test set x) → PieceSettles Settled p (Test set x)
+  test-settles : (x : ExprTree) → IsPieceAt p c.instrs.items (entries_of c) start (Test set x) → PieceSettles SettledBy p (Test set x)
   test-settles x at w s =
       let room = expression_depth (outlines_in p) x in
       let code = at room (omega arith) in
-      subst Settled (sym (after-then (value_of (scene_in p set) x w) holds (λ z u. refl)))
-      (subst Settled (after-then (value_of (scene_in p set) x w) ends_with (λ z u. refl)) (subst (λ (r : Ran Exit). Settled (world_after r)) (code.is w) (run-settles room w s)))
+      subst SettledBy (sym (after-then (value_of (scene_in p set) x w) holds (λ z u. refl)))
+      (subst SettledBy (after-then (value_of (scene_in p set) x w) ends_with (λ z u. refl)) (subst (λ (r : Ran Exit). SettledBy (world_after r)) (code.is w) (runs room w s)))
 
   -- and a block
-  action-settles : (b : BlockTree) → IsPieceAt p c.instrs.items (entries_of c) start (Action set b) → PieceSettles Settled p (Action set b)
+  action-settles : (b : BlockTree) → IsPieceAt p c.instrs.items (entries_of c) start (Action set b) → PieceSettles SettledBy p (Action set b)
   action-settles b at w s =
       let room = block_depth (outlines_in p) b in
       let code = at room (omega arith) in
-      subst Settled (after-then (block_effect (scene_in p set) b w) leads_to (λ way u. refl)) (subst (λ (r : Ran Exit). Settled (world_after r)) (code.is w) (run-settles room w s))
+      subst SettledBy (after-then (block_effect (scene_in p set) b w) leads_to (λ way u. refl)) (subst (λ (r : Ran Exit). SettledBy (world_after r)) (code.is w) (runs room w s))
+
+  -- a piece whose code begins there
+  pub piece-settles : (name : Piece) (piece : PieceTree) → kept_piece (holds_in (table_of c)) p name ≡ Some piece → start_in (table_of c) name ≡ Some start → set_of piece ≡ set →
+      PieceSettles SettledBy p piece
+  piece-settles name piece is found on = by piece on placed
+    where
+      placed : IsPlaced p c.instrs.items (entries_of c) (Some piece) (Some start)
+      placed =
+          subst (IsPlaced p c.instrs.items (entries_of c) (Some piece)) found
+          (subst (λ (o : Option PieceTree). IsPlaced p c.instrs.items (entries_of c) o (start_in (table_of c) name)) is (code-is.placed name))
+
+      by : (q : PieceTree) → set_of q ≡ set → IsPlaced p c.instrs.items (entries_of c) (Some q) (Some start) → PieceSettles SettledBy p q
+      by (Test n x) same at = subst (λ (m : ℕ). IsPieceAt p c.instrs.items (entries_of c) start (Test m x) → PieceSettles SettledBy p (Test m x)) (sym same) (test-settles x) at
+      by (Action n b) same at = subst (λ (m : ℕ). IsPieceAt p c.instrs.items (entries_of c) start (Action m b) → PieceSettles SettledBy p (Action m b)) (sym same) (action-settles b) at
 
 -- the law
 pub pieces_settle : PiecesSettle
-pieces_settle p ls c free values name (Test set x) start f code can named is found right empty =
-    test-settles p ls c free values can code named set start f right empty x
-    (subst (IsPlaced p c.instrs.items (entries_of c) (Some (Test set x))) found
-    (subst (λ (o : Option PieceTree). IsPlaced p c.instrs.items (entries_of c) o (start_in (table_of c) name)) is (code.placed name)))
-pieces_settle p ls c free values name (Action set b) start f code can named is found right empty =
-    action-settles p ls c free values can code named set start f right empty b
-    (subst (IsPlaced p c.instrs.items (entries_of c) (Some (Action set b))) found
-    (subst (λ (o : Option PieceTree). IsPlaced p c.instrs.items (entries_of c) o (start_in (table_of c) name)) is (code.placed name)))
+pieces_settle p ls c free values name piece start f code can named is found right empty =
+    piece-settles p ls c free values code (set_of piece) start (run-settles p ls c free values can code named (set_of piece) start f right empty) name piece is found refl

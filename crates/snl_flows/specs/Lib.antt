@@ -7,6 +7,7 @@ pub mod Quiet
 pub mod Flows
 pub mod Settled
 pub mod Unwritten
+pub mod Spared
 pub mod Checks
 pub mod QuietChecks
 pub mod Examples

@@ -8,7 +8,7 @@ use Rattle.snl_flat.specs.Pieces.{IsCodeOf, PieceTree, Test, Action, kept_piece}
 use Rattle.snl_flat.specs.Starts.{holds_in, table_of}
 use Rattle.snl_load.specs.Meaning.{program_meaning}
 use Rattle.snl_machine.specs.Frames.{frame_in}
-use Rattle.snl_machine.specs.Snapshots.{CanBeIn}
+use Rattle.snl_machine.specs.Reached.{AreReached}
 use Rattle.snl_meaning.specs.declared.ties.Tied.{Tied}
 use Rattle.snl_meaning.specs.Effect.{block_effect, held_by}
 use Rattle.snl_meaning.specs.Frames.{Frame, frame_of}
@@ -102,10 +102,11 @@ PieceSettles P p (Action set b) = (w : World) → P w → P (world_after (block_
 
 -- ---- the law
 
--- Where links can be free, and each piece that a run can come to keeps them settled, a line does, if its event has no other values for them.
+-- Where links can be free, and each piece that a run can come to keeps them settled, a line does, if its event has no other values for them, and
+-- the states of the world are some that a run can come to.
 abbrev pub LinesSettle : Type 0
 LinesSettle = (p : ProgramTree) (ls : List Link) (c : Code) (free : List ℕ) (values : List (List (List ℤ))) (waits : Bool) (budget ms : ℕ) (event : Event) (w : World) →
     IsCodeOf p c → 0 < length p.state_sets → CanBeFree free (layout_for p ls) →
     ((name : Piece) (piece : PieceTree) → kept_piece (holds_in (table_of c)) p name ≡ Some piece → PieceSettles (IsSettled free values (layout_for p ls)) p piece) →
-    EventComes (AreKnown free values (layout_for p ls)) event → CanBeIn p ls c w → IsSettled free values (layout_for p ls) w →
+    EventComes (AreKnown free values (layout_for p ls)) event → AreReached p (holds_in (table_of c)) w → IsSettled free values (layout_for p ls) w →
     IsSettled free values (layout_for p ls) (world_after (line_of (program_meaning p ls waits) budget ms event w))

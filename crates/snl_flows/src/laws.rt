@@ -5,6 +5,7 @@ ghost use Rattle.snl_flows.specs.Examples.{FlowsExamples};
 ghost use Rattle.snl_flows.specs.Flows.{EventsFlow, LinesFlow, NothingIsLeftOut, NothingIsStale, PiecesFlow};
 ghost use Rattle.snl_flows.specs.Outside.{BuffersAreSame};
 ghost use Rattle.snl_flows.specs.Settled.{LinesSettle};
+ghost use Rattle.snl_flows.specs.Spared.{LinesSpare, PiecesSpare};
 ghost use Rattle.snl_flows.specs.Unwritten.{PiecesSettle};
 
 /// Where tables are right of the code of a program, its pieces come out alike from worlds that are the same outside.
@@ -17,9 +18,19 @@ pub fn lines_flow()
     ensures { LinesFlow }
 {}
 
+/// So do they with other values of a channel of which all may differ.
+pub fn events_flow()
+    ensures { EventsFlow }
+{}
+
 /// Where a table shows that code writes no word of a free link, its pieces keep links settled.
 pub fn pieces_settle()
     ensures { PiecesSettle }
+{}
+
+/// Where code writes no word of a free link, whatever its operands are, its pieces keep links settled.
+pub fn pieces_spare()
+    ensures { PiecesSpare }
 {}
 
 /// Where the pieces of a program keep links settled, so do its lines.
@@ -27,9 +38,9 @@ pub fn lines_settle()
     ensures { LinesSettle }
 {}
 
-/// So do they with other values of a channel of which all may differ.
-pub fn events_flow()
-    ensures { EventsFlow }
+/// Where the code of a program writes no word of a free link, whatever its operands are, its lines keep free links settled.
+pub fn lines_spare()
+    ensures { LinesSpare }
 {}
 
 /// With no line nothing is left out, and with no name texts are the same.
