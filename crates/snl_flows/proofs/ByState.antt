@@ -1,8 +1,10 @@
 -- That two worlds are the same but for what is hidden in their states is a relation that all steps of a run keep.
-use Rattle.std.proofs.Common.{◌≡◌, ◌∙◌, ◌⊎◌, ◌+◌, ◌<◌, inl, ⊎_elim, refl, sym, ap, subst, arith, ℕ, zero, suc, pos, Bool, true, false, List, [], ◌∷◌, length, if◌then◌else◌}
-use Rattle.std.specs.Prelude.{slice_index_or, slice_set}
+use Rattle.std.proofs.Common.{◌≡◌, ◌∙◌, ◌⊎◌, ◌+◌, ◌<◌, inl, ⊎_elim, refl, sym, ap, subst, arith, ℕ, zero, suc, pos, Bool, true, false, List, [], ◌∷◌, None, Some, length, if◌then◌else◌}
+use Rattle.std.specs.Prelude.{◌==◌, slice_get, slice_index_or, slice_set}
+use Rattle.std.proofs.lemmas.Bool.{eqb-false, eqb-true}
 use Rattle.snl_meaning.specs.declared.live.Live.{Live}
 use Rattle.snl_meaning.specs.declared.live.Live.TheVariants.{Waiting, Running, Ended}
+use Rattle.snl_meaning.specs.declared.ties.Tied.{Tied}
 use Rattle.snl_meaning.specs.Links.{buffer_of, with_buffer, with_elements}
 use Rattle.snl_meaning.specs.World.{SetMemory, World, copy_of, no_copy, with_copy}
 use Rattle.snl_meaning.proofs.Sizes.{set-many}
@@ -11,7 +13,7 @@ use Rattle.snl_alike.specs.Runs.{AreAlikeInRuns, NothingMore}
 use Rattle.snl_alike.specs.TwoRuns.{KeepsAlike, common_of, with_common}
 use Rattle.snl_flows.specs.Flows.{IsAlike}
 use Rattle.snl_flows.specs.Outside.{IsSameByState, IsSameCopy, IsSameOutside, Places, each_always, has, hidden_in, places_by, places_for, places_in, places_of, places_with}
-use Rattle.snl_flows.specs.Tables.{AreBehind, Ground, HasLinks}
+use Rattle.snl_flows.specs.Tables.{AreBehind, Ground, HasLinks, room_of}
 use Rattle.snl_flows.specs.Texts.{SameButValues}
 use Rattle.snl_flows.proofs.Alike.{flow-in-runs, flow-keeps, flow-stale}
 use Rattle.snl_flows.proofs.Buffers.{KeepsStale, refreshed-keeps}
@@ -112,13 +114,29 @@ relisted stale xs ys w u less e = record {
 
 -- ---- two worlds
 
-module _ (g : Ground) (hidden : List Places) (wide : IsWide hidden) (behind : AreBehind (record g { hidden = each_always hidden })) where
+-- What is hidden by state takes all that may differ of buffers, in states that are clean, and while a program waits, if it may; and then each
+-- state is clean.
+pub record Fits (g : Ground) (hidden : List Places) (Clean : (set state : ℕ) → Type 0) (Waits : Type 0) : Type 0 where
+  pub wide : IsWide hidden
+  pub hides : (set state link e home : ℕ) (t : Tied) → Clean set state → slice_get g.ties link ≡ Some t → slice_index_or (slice_index_or g.homes set []) link None ≡ Some home →
+      e < t.count → has g.stale (t.from + e) ≡ true → has (places_in (places_for hidden set) state) (home + e) ≡ true
+  pub queued : (link e : ℕ) (t : Tied) → slice_get g.ties link ≡ Some t → 0 < (room_of g link).0 → e < (room_of g link).1 → has g.stale (t.from + e) ≡ false
+  pub waits : Waits → AreBehind (record g { hidden = each_always hidden })
+  pub starts : Waits → (set state : ℕ) → Clean set state
+
+module _ (g : Ground) (hidden : List Places) (Clean : (set state : ℕ) → Type 0) (Waits : Type 0) (fits : Fits g hidden Clean Waits) where
   -- what holds for all state sets, where that is hidden which is so in a world
   abbrev pub now : World → Ground
   now w = record g { hidden = hidden_in hidden w }
 
+  -- A program with copies in some states waits if it may, and each state is clean.
+  pub record Stands (phase : Live) (copies : List SetMemory) : Type 0 where
+    pub waits : phase ≡ Waiting → Waits
+    pub clean : (set : ℕ) → Clean set (slice_index_or copies set no_copy).state
+
   -- Two worlds are the same but for what is hidden in their states, and have the links of the program;
   pub record IsAlikeNow (w u : World) : Type 0 where
+    pub stands : Stands w.phase w.copies
     pub links : HasLinks g w
     pub outside : IsSameByState hidden g.stale w u
 
@@ -127,25 +145,39 @@ module _ (g : Ground) (hidden : List Places) (wide : IsWide hidden) (behind : Ar
     pub alike : IsAlikeNow w u
     pub is_in : (copy_of set w).state ≡ state
 
-  -- what may differ of buffers comes to places that are hidden then
-  pub behind-now : (w : World) → AreBehind (now w)
-  behind-now w = record {
+  -- On the way from a state to one, that is clean, words that are hidden in the first one alone are the same.
+  pub record Carries (set from to : ℕ) (w u : World) : Type 0 where
+    pub over : CarriesOver hidden set from to w u
+    pub clean : Clean set to
+
+  -- what may differ of buffers comes to places that are hidden in the state of a copy, as far as the program has come
+  pub hides-by : (phase : Live) (copies : List SetMemory) → Stands phase copies → (set link k home : ℕ) (t : Tied) → slice_get g.ties link ≡ Some t →
+      slice_index_or (slice_index_or g.homes set []) link None ≡ Some home → k < t.count → has g.stale (t.from + k) ≡ true →
+      has (places_by phase (places_for hidden set) (slice_index_or copies set no_copy).state) (home + k) ≡ true
+  hides-by Waiting copies stands set link k home t at begins low stale =
+      subst (λ (ps : List ℕ). has ps (home + k) ≡ true) (always-at hidden set) ((fits.waits (stands.waits refl)).hides set link k home t at begins low stale)
+  hides-by Running copies stands set link k home t at begins low stale = fits.hides set _ link k home t (stands.clean set) at begins low stale
+  hides-by Ended copies stands set link k home t at begins low stale = fits.hides set _ link k home t (stands.clean set) at begins low stale
+
+  -- so it does in a world
+  pub behind-now : (w : World) → Stands w.phase w.copies → AreBehind (now w)
+  behind-now w stands = record {
     hides = λ set link k home t at begins low stale.
-        subst (λ (ps : List ℕ). has ps (home + k) ≡ true) (sym (place-at w.phase hidden w.copies set))
-        (by-wide hidden wide w.phase set (copy_of set w).state (home + k)
-        (subst (λ (ps : List ℕ). has ps (home + k) ≡ true) (always-at hidden set) (behind.hides set link k home t at begins low stale)));
-    queued = behind.queued;
+        subst (λ (ps : List ℕ). has ps (home + k) ≡ true) (sym (place-at w.phase hidden w.copies set)) (hides-by w.phase w.copies stands set link k home t at begins low stale);
+    queued = fits.queued;
   }
 
   -- it is so where that is hidden
   pub to-now : (w u : World) → IsAlikeNow w u → IsAlike (now w) w u
-  to-now w u e = record { behind = behind-now w; links = links-hidden g (hidden_in hidden w) w e.links; outside = e.outside }
+  to-now w u e = record { behind = behind-now w e.stands; links = links-hidden g (hidden_in hidden w) w e.links; outside = e.outside }
 
-  -- and back, where the same is hidden behind a step
-  pub back : (w x y : World) → hidden_in hidden x ≡ hidden_in hidden w → IsAlike (now w) x y → IsAlikeNow x y
-  back w x y same e = record {
+  -- and back, where a step keeps how far the program has come, and the states
+  pub back : (w x y : World) → Stands w.phase w.copies → x.phase ≡ w.phase → AreInSame x.copies w.copies → IsAlike (now w) x y → IsAlikeNow x y
+  back w x y stands phase states e = record {
+    stands = record { waits = λ is. stands.waits (sym phase ∙ is); clean = λ set. subst (Clean set) (sym (states set)) (stands.clean set) };
     links = links-shown g (hidden_in hidden w) x e.links;
-    outside = subst (λ (places : List (List ℕ)). IsSameOutside places g.stale x y) (sym same) e.outside;
+    outside = subst (λ (places : List (List ℕ)). IsSameOutside places g.stale x y)
+        (sym (places-same x.phase hidden x.copies w.copies states ∙ ap (λ (l : Live). places_with l hidden w.copies) phase)) e.outside;
   }
 
   -- what comes to links comes alike
@@ -154,13 +186,13 @@ module _ (g : Ground) (hidden : List Places) (wide : IsWide hidden) (behind : Ar
     links = λ w u e. e.links;
     same = λ w u e. e.outside.same;
     changes = λ v w cs xs bs copies shared buffers phase links e.
-        back w v (record v { copies = cs; shared = xs; buffers = bs }) (ap (λ (x : Live). places_with x hidden v.copies) phase ∙ ap (λ (ws : List SetMemory). places_with w.phase hidden ws) copies)
+        back w v (record v { copies = cs; shared = xs; buffers = bs }) e.stands phase (λ n. ap (λ (ws : List SetMemory). (slice_index_or ws n no_copy).state) copies)
         ((flow-stale (now w)).changes v w cs xs bs copies shared buffers phase (links-hidden g (hidden_in hidden w) v links) (to-now w (record w { copies = cs; shared = xs; buffers = bs }) e));
     comes = λ set link home t w u at begins e.
-        back w (with_elements set home (buffer_of t w) w) (with_elements set home (buffer_of t u) u) (places-same w.phase hidden _ w.copies (same-states w.copies set _ refl))
+        back w (with_elements set home (buffer_of t w) w) (with_elements set home (buffer_of t u) u) e.stands refl (same-states w.copies set _ refl)
         ((flow-stale (now w)).comes set link home t w u at begins (to-now w u e));
-    fills = λ t zs w u e. back w (with_buffer t zs w) (with_buffer t zs u) refl ((flow-stale (now w)).fills t zs w u (to-now w u e));
-    others = λ t zs ys w u few less stale e. back w (with_buffer t zs w) (with_buffer t ys u) refl ((flow-stale (now w)).others t zs ys w u few less stale (to-now w u e));
+    fills = λ t zs w u e. back w (with_buffer t zs w) (with_buffer t zs u) e.stands refl (λ n. refl) ((flow-stale (now w)).fills t zs w u (to-now w u e));
+    others = λ t zs ys w u few less stale e. back w (with_buffer t zs w) (with_buffer t ys u) e.stands refl (λ n. refl) ((flow-stale (now w)).others t zs ys w u few less stale (to-now w u e));
     queues = λ link t w u at some e. (flow-stale (now w)).queues link t w u at some (to-now w u e);
   }
 
@@ -169,7 +201,7 @@ module _ (g : Ground) (hidden : List Places) (wide : IsWide hidden) (behind : Ar
   now-keeps set = record {
     rest = λ w u e. ap common_of e.outside.same;
     rest_changes = λ r w u phase homes ties channels queues e.
-        back w (with_common r w) (with_common r u) (ap (λ (x : Live). places_with x hidden w.copies) phase)
+        back w (with_common r w) (with_common r u) e.stands phase (λ n. refl)
         ((flow-keeps (now w) set).rest_changes r w u phase homes ties channels queues (to-now w u e));
     prints = λ name text w u e. (flow-keeps (now w) set).prints name text w u (to-now w u e);
     silent = (flow-keeps g set).silent;
@@ -188,7 +220,7 @@ module _ (g : Ground) (hidden : List Places) (wide : IsWide hidden) (behind : Ar
 
   -- ---- a state is entered
 
-  module _ (set from to : ℕ) (is_timed : Bool) (w u : World) (low : set < length w.copies) (e : IsAlikeIn set from w u) (carries : CarriesOver hidden set from to w u) where
+  module _ (set from to : ℕ) (is_timed : Bool) (w u : World) (low : set < length w.copies) (e : IsAlikeIn set from w u) (carries : Carries set from to w u) where
     -- the copies of the state set
     abbrev first : SetMemory
     first = record (copy_of set w) { state = to; entered = if is_timed then w.time else (copy_of set w).entered }
@@ -207,6 +239,16 @@ module _ (g : Ground) (hidden : List Places) (wide : IsWide hidden) (behind : Ar
     -- the state is entered
     is-to : (copy_of set (entered_in set to is_timed w)).state ≡ to
     is-to = ap (λ (c : SetMemory). c.state) (set-own w.copies set first no_copy low)
+
+    -- each state set is in a clean one
+    clean-new : (n : ℕ) → Clean n (copy_of n (entered_in set to is_timed w)).state
+    clean-new n = by (n == set) refl
+      where
+        by : (b : Bool) → (n == set) ≡ b → Clean n (copy_of n (entered_in set to is_timed w)).state
+        by true is = subst (λ (m : ℕ). Clean m (copy_of m (entered_in set to is_timed w)).state) (sym (eqb-true n set is)) (subst (Clean set) (sym is-to) carries.clean)
+        by false is =
+            subst (λ (c : SetMemory). Clean n c.state) (sym (set-other w.copies set n first no_copy (eqb-false n set is)))
+            (e.alike.stands.clean n)
 
     -- of other state sets the same is hidden
     other-new : (n : ℕ) → (n ≡ set → ⊥) → (k : ℕ) → New n k → Old n k
@@ -228,12 +270,12 @@ module _ (g : Ground) (hidden : List Places) (wide : IsWide hidden) (behind : Ar
     open-same Running k old shows = by (has (places_in (places_for hidden set) from) k) refl
       where
         by : (b : Bool) → has (places_in (places_for hidden set) from) k ≡ b → slice_index_or (copy_of set w).words k (pos 0) ≡ slice_index_or (copy_of set u).words k (pos 0)
-        by true here = carries k here shows
+        by true here = carries.over k here shows
         by false free = old free
     open-same Ended k old shows = by (has (places_in (places_for hidden set) from) k) refl
       where
         by : (b : Bool) → has (places_in (places_for hidden set) from) k ≡ b → slice_index_or (copy_of set w).words k (pos 0) ≡ slice_index_or (copy_of set u).words k (pos 0)
-        by true here = carries k here shows
+        by true here = carries.over k here shows
         by false free = old free
 
     -- so it is of the own copy
@@ -254,6 +296,7 @@ module _ (g : Ground) (hidden : List Places) (wide : IsWide hidden) (behind : Ar
         (λ n. record { state = (o.copies n).state; entered = (o.copies n).entered; words = record { long = (o.copies n).long; at = (o.copies n).at } }) in
         record {
           alike = record {
+            stands = record { waits = e.alike.stands.waits; clean = clean-new };
             links = links-same g w (entered_in set to is_timed w) refl refl refl refl (set-many w.copies set first) e.alike.links;
             outside = record {
               same = ap (λ (v : World). with_copy set second v) o.same;
@@ -271,11 +314,12 @@ module _ (g : Ground) (hidden : List Places) (wide : IsWide hidden) (behind : Ar
   -- it begins, or ends
   becomes : (phase : Live) → (phase ≡ Waiting → ⊥) → (w u : World) → IsAlikeNow w u → IsAlikeNow (record w { phase = phase }) (record u { phase = phase })
   becomes phase waits w u e = record {
+    stands = record { waits = λ is. absurd (waits is); clean = e.stands.clean };
     links = links-same g w (record w { phase = phase }) refl refl refl refl refl e.links;
     outside = relisted g.stale (hidden_in hidden w) (places_with phase hidden w.copies) (record w { phase = phase }) (record u { phase = phase })
         (λ n k shows. inl (subst (λ (ps : List ℕ). has ps k ≡ false) (sym (place-at w.phase hidden w.copies n))
         (less-open (places_by phase (places_for hidden n) (copy_of n w).state) (places_by w.phase (places_for hidden n) (copy_of n w).state) k
-        (comes-less hidden wide w.phase phase waits n (copy_of n w).state k) (subst (λ (ps : List ℕ). has ps k ≡ false) (place-at phase hidden w.copies n) shows))))
+        (comes-less hidden fits.wide w.phase phase waits n (copy_of n w).state k) (subst (λ (ps : List ℕ). has ps k ≡ false) (place-at phase hidden w.copies n) shows))))
         (record { same = ap (λ (v : World). record v { phase = phase }) e.outside.same; long = e.outside.long; count = e.outside.count; copies = e.outside.copies; buffers = e.outside.buffers });
   }
 
@@ -291,7 +335,7 @@ module _ (g : Ground) (hidden : List Places) (wide : IsWide hidden) (behind : Ar
     copy-there set w u low e = let many = e.links.many in omega (arith, low, many, as-many)
 
     -- all steps of a run keep it
-    pub state-in-runs : AreAlikeInRuns sets (λ n m. n ≡ m) IsAlikeNow IsAlikeIn (CarriesOver hidden) (SameButValues g.names)
+    pub state-in-runs : AreAlikeInRuns sets (λ n m. n ≡ m) IsAlikeNow IsAlikeIn Carries (SameButValues g.names)
     state-in-runs = record {
       some = some;
       keeps = λ set low. now-keeps set;
@@ -302,9 +346,9 @@ module _ (g : Ground) (hidden : List Places) (wide : IsWide hidden) (behind : Ar
       refreshes = λ set low w u e. refreshed-keeps g IsAlikeNow now-stale set w u e;
       enters = λ set from state is_timed low either w u e l. entered set from state is_timed w u (copy-there set w u low e.alike) e l;
       becomes = becomes;
-      opens = λ w u e. back w _ _ refl ((steps w).opens w u (to-now w u e));
-      wakes = λ w u e. back w _ _ refl ((steps w).wakes w u (to-now w u e));
-      times = λ n m w u at e. back w _ _ refl ((steps w).times n m w u at (to-now w u e));
+      opens = λ w u e. back w _ _ e.stands refl (λ n. refl) ((steps w).opens w u (to-now w u e));
+      wakes = λ w u e. back w _ _ e.stands refl (λ n. refl) ((steps w).wakes w u (to-now w u e));
+      times = λ n m w u at e. back w _ _ e.stands refl (λ k. refl) ((steps w).times n m w u at (to-now w u e));
       before = λ n m w u at e. (steps w).before n m w u at (to-now w u e);
       left = λ n m w u at e. (steps w).left n m w u at (to-now w u e);
       starts = λ name w u e. (steps w).starts name w u (to-now w u e);

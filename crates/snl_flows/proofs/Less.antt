@@ -1,4 +1,4 @@
--- What a table says of code is right, too, where less is hidden, but no word of those that may differ.
+-- What a table says of code is right, too, where less is hidden, but no word of those that may differ, and where less of buffers is stale.
 use Rattle.std.proofs.Common.{◌≡◌, ◌∙◌, ◌⊎◌, ◌+◌, ◌-◌, inl, inr, ⊎_elim, sym, ℕ, zero, suc, Bool, true, false, List, [], ◌∷◌, Option, None, Some}
 use Rattle.std.specs.Prelude.{slice_get}
 use Rattle.std.proofs.lemmas.Bool.{false≢true}
@@ -13,11 +13,11 @@ use Rattle.snl_flows.specs.Outside.{has, places_of}
 use Rattle.snl_flows.specs.Quiet.{AreFine, ArePassed, IsPassed, IsQuietAt, StaysIn}
 use Rattle.snl_flows.specs.Tables.{Operand, Flow, Ground, IsOpen, IsSameAt, MayDiffer, facts_at}
 
-module _ (g : Ground) (places : List (List ℕ)) (set : ℕ) (f : Flow) (shows : (k : ℕ) → has (places_of g.hidden set) k ≡ false → has (places_of places set) k ≡ false)
-    (firm : (k : ℕ) → has f.loose k ≡ true → has (places_of places set) k ≡ true) where
-  -- the same, where these places are hidden
+module _ (g : Ground) (places : List (List ℕ)) (stale : List ℕ) (set : ℕ) (f : Flow) (shows : (k : ℕ) → has (places_of g.hidden set) k ≡ false → has (places_of places set) k ≡ false)
+    (firm : (k : ℕ) → has f.loose k ≡ true → has (places_of places set) k ≡ true) (fewer : (k : ℕ) → has stale k ≡ true → has g.stale k ≡ true) where
+  -- the same, where these places are hidden, and these are stale
   abbrev less : Ground
-  less = record g { hidden = places }
+  less = record g { hidden = places; stale = stale }
 
   -- ---- words
 
@@ -58,7 +58,7 @@ module _ (g : Ground) (places : List (List ℕ)) (set : ℕ) (f : Flow) (shows :
 
   -- what is got
   got-less : (query : Query) (place : ℕ) → IsGot g set f query place → IsGot less set f query place
-  got-less PvGet place got = λ link k t found tied low stale. differs-less false (place + k) (got link k t found tied low stale)
+  got-less PvGet place got = λ link k t found tied low old. differs-less false (place + k) (got link k t found tied low (fewer (t.from + k) old))
   got-less PvGetQ place got = tt
   got-less PvFlushQ place got = tt
   got-less PvConnected place got = tt

@@ -22,9 +22,12 @@ pub mod Buffers
 pub mod Alike
 pub mod Meets
 pub mod ByState
+pub mod Claims
 pub mod Lines
 pub mod Nothing
 pub mod LineLaws
+pub mod Shares
+pub mod ChosenLaws
 pub mod Settled
 pub mod SettledLines
 pub mod SettledWords
@@ -35,3 +38,4 @@ pub mod Checks
 pub mod Checked
 pub mod QuietChecked
 pub mod Examples
+pub mod ChosenExamples

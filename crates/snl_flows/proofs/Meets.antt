@@ -18,12 +18,12 @@ met (xs ∷ rest) zero ys = meet xs ys ∷ rest
 met (xs ∷ rest) (suc set) ys = xs ∷ met rest set ys
 
 -- one of two
-or-first : (a b : Bool) → a ≡ true → (a || b) ≡ true
+pub or-first : (a b : Bool) → a ≡ true → (a || b) ≡ true
 or-first true b is = refl
 or-first false b is = absurd (cc)
 
 -- or the other one
-or-second : (a b : Bool) → b ≡ true → (a || b) ≡ true
+pub or-second : (a b : Bool) → b ≡ true → (a || b) ≡ true
 or-second true b is = refl
 or-second false b is = is
 

@@ -1,5 +1,5 @@
 -- Where tables are right of the code of a program, each of its pieces comes out alike from worlds that are the same outside.
-use Rattle.std.proofs.Common.{◌≡◌, ◌∙◌, inr, refl, sym, ap, subst, arith, ℕ, zero, suc, ℤ, pos, Bool, true, false, List, [], ◌∷◌, ◌++◌, Option, None, Some, if◌then◌else◌}
+use Rattle.std.proofs.Common.{◌≡◌, ◌∙◌, ◌⊎◌, refl, sym, ap, subst, arith, ℕ, zero, suc, ℤ, pos, Bool, true, false, List, [], ◌∷◌, ◌++◌, Option, None, Some, if◌then◌else◌}
 use Rattle.std.proofs.lemmas.Bool.{false≢true}
 use Rattle.std.proofs.lemmas.List.{append-nil}
 use Rattle.std.specs.List.{flat_map}
@@ -32,10 +32,11 @@ use Rattle.snl_schedule.specs.declared.plans.Destination.TheVariants as to
 use Rattle.snl_schedule.specs.Turn.{target_by}
 use Rattle.snl_syntax.specs.Programs.{ClauseTree, ProgramTree}
 use Rattle.snl_syntax.specs.Statements.{BlockTree}
-use Rattle.snl_alike.specs.Runs.{GoesTo, HoldsBehind, NoStray}
+use Rattle.snl_alike.specs.Runs.{GoesTo, HoldsBehind}
 use Rattle.snl_alike.specs.TwoRuns.{Alike, BothGive, BothFault, FirstLeftOut, SecondLeftOut}
 use Rattle.snl_flows.specs.Quiet.{AreFine}
-use Rattle.snl_flows.specs.Flows.{AreFlowsOf, CoversBy, IsAlike, IsBehind, IsBehindPiece, IsBetween, PieceFlows, PiecesFlow, RunsIn, all_in, ground_of, set_of}
+use Rattle.snl_flows.specs.Chosen.{AreChosenFlowsOf, Share, no_share, with_more}
+use Rattle.snl_flows.specs.Flows.{AreFlowsOf, Covers, CoversBy, IsAlike, IsBehind, IsBehindPiece, IsBetween, IsShown, PieceFlows, PiecesFlow, RunsIn, all_in, ground_of, set_of}
 use Rattle.snl_flows.specs.LeftOut.{left_out}
 use Rattle.snl_flows.specs.Outside.{AreSameAt, IsSameOutside, Places, has, places_for, places_in, places_of}
 use Rattle.snl_flows.specs.Tables.{AreBehind, Flow, Ground, HasLinks, facts_at, first_facts}
@@ -195,17 +196,18 @@ abbrev pub CarriesOver : List Places → (set from to : ℕ) → World → World
 CarriesOver hidden set from to w u = (k : ℕ) → has (places_in (places_for hidden set) from) k ≡ true → has (places_in (places_for hidden set) to) k ≡ false →
     slice_index_or (copy_of set w).words k (pos 0) ≡ slice_index_or (copy_of set u).words k (pos 0)
 
--- so it is behind a block whose table says so, wherever it leads
-carried : (hidden : List Places) (set from : ℕ) (target : Destination) (f : Flow) → IsBehind (places_for hidden set) from target f → (r s : Ran (Option ℕ)) →
-    HoldsBehind (KnownLeft f set) r s → HoldsBehind (λ left. GoesTo (NoStray set) (CarriesOver hidden set from) (target_by left target)) r s
-carried hidden set from target f behind (Gives None w a) (Gives z u b) known = by target behind.ends
+-- behind a block whose table covers what is hidden in its state alone, more is known, wherever it leads
+carried : (s : Places) (set from : ℕ) (target : Destination) (f : Flow) (Stray : (to : ℕ) → Type 0) (L : (to : ℕ) → World → World → Type 0) → IsBehind s from target f →
+    ((known : List ℕ) (to : ℕ) (w u : World) → Covers s from to known → AreSameAt set known w u → Stray to ⊎ L to w u) → (r t : Ran (Option ℕ)) →
+    HoldsBehind (KnownLeft f set) r t → HoldsBehind (λ left. GoesTo Stray L (target_by left target)) r t
+carried s set from target f Stray L behind go (Gives None w a) (Gives z u b) known = by target behind.ends
   where
-    by : (d : Destination) → CoversBy (places_for hidden set) from d f.ends → GoesTo (NoStray set) (CarriesOver hidden set from) d w u
-    by (to.State target) covers = inr (λ k here shows. known k (covers k here shows))
+    by : (d : Destination) → CoversBy s from d f.ends → GoesTo Stray L d w u
+    by (to.State target) covers = go f.ends target w u covers known
     by to.Exit covers = tt
-carried hidden set from target f behind (Gives (Some state) w a) (Gives z u b) known = inr (λ k here shows. known k (behind.leaves state k here shows))
-carried hidden set from target f behind (Gives v w a) (Faults fault line u b) known = tt
-carried hidden set from target f behind (Faults fault line w a) s known = tt
+carried s set from target f Stray L behind go (Gives (Some state) w a) (Gives z u b) known = go f.leaves state w u (behind.leaves state) known
+carried s set from target f Stray L behind go (Gives v w a) (Faults fault line u b) known = tt
+carried s set from target f Stray L behind go (Faults fault line w a) t known = tt
 
 module _ (p : ProgramTree) (ls : List Link) (c : Code) (places : List (List ℕ)) (stale lines : List ℕ) (names : List (List ℕ))
     (texts : texts_of c ≡ flat_map format_at (sites p)) (named : (set : ℕ) → IsInLine (name_by (slice_get p.state_sets set))) where
@@ -302,10 +304,17 @@ record IsAt (p : ProgramTree) (ls : List Link) (c : Code) (hidden : List Places)
   pub at : IsPieceAt p c.instrs.items (entries_of c) start piece
   pub behind : IsBehindPiece p hidden name flow
 
-module _ (p : ProgramTree) (ls : List Link) (c : Code) (hidden : List Places) (stale lines : List ℕ) (names : List (List ℕ)) (right : AreFlowsOf p ls c hidden stale lines names) where
-  -- each piece has
+-- ---- pieces of a program of which some channels are free
+
+module _ (p : ProgramTree) (ls : List Link) (c : Code) (hidden : List Places) (stale lines : List ℕ) (names : List (List ℕ)) (free : Share)
+    (right : AreChosenFlowsOf p ls c hidden stale lines names free) (old : List ℕ) (few : (k : ℕ) → has old k ≡ true → has (stale ++ free.buffers) k ≡ true) where
+  -- what is hidden, and the free words in each state
+  abbrev more : List Places
+  more = with_more hidden free.words
+
+  -- each piece has code, where some of its buffers are stale
   is-at : (name : Piece) (piece : PieceTree) (state : ℕ) (places : List (List ℕ)) → kept_piece (holds_in (table_of c)) p name ≡ Some piece → RunsIn hidden name state →
-      IsBetween (places_for hidden (set_of piece)) state (places_of places (set_of piece)) → IsAt p ls c hidden stale lines names name piece places
+      IsBetween (places_for hidden (set_of piece)) state (places_of places (set_of piece)) → IsAt p ls c more old lines names name piece places
   is-at name piece state places is runs between =
       by (start_in (table_of c) name) refl
       (subst (λ (o : Option PieceTree). IsPlaced p c.instrs.items (entries_of c) o (start_in (table_of c) name)) is (right.code.placed name))
@@ -313,17 +322,17 @@ module _ (p : ProgramTree) (ls : List Link) (c : Code) (hidden : List Places) (s
       set : ℕ
       set = set_of piece
 
-      by : (o : Option ℕ) → start_in (table_of c) name ≡ o → IsPlaced p c.instrs.items (entries_of c) (Some piece) o → IsAt p ls c hidden stale lines names name piece places
+      by : (o : Option ℕ) → start_in (table_of c) name ≡ o → IsPlaced p c.instrs.items (entries_of c) (Some piece) o → IsAt p ls c more old lines names name piece places
       by None found placed = absurd placed
       by (Some start) found placed =
           let one = right.shown name piece state start (kept-is p (holds_in (table_of c)) name piece is) runs found in
           record {
             start = start;
             flow = one.flow;
-            fine = all-less (ground_of p ls c (all_in hidden state) stale lines names) places set one.flow
+            fine = all-less (ground_of p ls c (all_in hidden state) (stale ++ free.buffers) lines names) places old set one.flow
                 (λ k shows. less-open (places_in (places_for hidden set) state) (places_of places set) k (between.high k)
                 (subst (λ (ks : List ℕ). has ks k ≡ false) (all-at hidden state set) shows))
-                (λ k loose. between.low k (one.shown.firm k loose)) c.instrs.items one.shown.fine;
+                (λ k loose. between.low k (one.shown.firm k loose)) few c.instrs.items one.shown.fine;
             free = one.shown.free;
             at = placed;
             behind = one.behind;
@@ -331,22 +340,59 @@ module _ (p : ProgramTree) (ls : List Link) (c : Code) (hidden : List Places) (s
 
   -- all of them come out alike
   pub each-flows : (name : Piece) (piece : PieceTree) (state : ℕ) (places : List (List ℕ)) → kept_piece (holds_in (table_of c)) p name ≡ Some piece → RunsIn hidden name state →
-      IsBetween (places_for hidden (set_of piece)) state (places_of places (set_of piece)) → PieceFlows (ground_of p ls c places stale lines names) p piece
+      IsBetween (places_for hidden (set_of piece)) state (places_of places (set_of piece)) → PieceFlows (ground_of p ls c places old lines names) p piece
   each-flows name piece state places is runs between =
       let one = is-at name piece state places is runs between in
-      piece-flows p ls c places stale lines names right.code.texts right.named piece one.start one.flow one.fine one.free one.at
+      piece-flows p ls c places old lines names right.code.texts right.named piece one.start one.flow one.fine one.free one.at
 
-  -- behind the block of a clause more is the same, wherever it leads
-  pub block-carries : (set state k : ℕ) (x : ClauseTree) (places : List (List ℕ)) → clause_at p set state k ≡ Some x →
+  -- behind the block of a clause more is known, wherever it leads
+  pub block-carries : (set state k : ℕ) (x : ClauseTree) (places : List (List ℕ)) (Stray : (to : ℕ) → Type 0) (L : (to : ℕ) → World → World → Type 0) →
+      ((known : List ℕ) (to : ℕ) (w u : World) → Covers (places_for more set) state to known → AreSameAt set known w u → Stray to ⊎ L to w u) → clause_at p set state k ≡ Some x →
       kept_piece (holds_in (table_of c)) p (Block set state k) ≡ Some (Action set x.block) → IsBetween (places_for hidden set) state (places_of places set) → (w u : World) →
-      IsAlike (ground_of p ls c places stale lines names) w u →
-      HoldsBehind (λ left. GoesTo (NoStray set) (CarriesOver hidden set state) (target_by left (target_of (scene_in p set).here.states x.target)))
+      IsAlike (ground_of p ls c places old lines names) w u → HoldsBehind (λ left. GoesTo Stray L (target_by left (target_of (scene_in p set).here.states x.target)))
       (then_do (block_effect (scene_in p set) x.block w) state_left_for) (then_do (block_effect (scene_in p set) x.block u) state_left_for)
-  block-carries set state k x places clause is between w u e =
+  block-carries set state k x places Stray L go clause is between w u e =
       let one = is-at (Block set state k) (Action set x.block) state places is refl between in
-      carried hidden set state (target_of (scene_in p set).here.states x.target) one.flow (one.behind x clause) _ _
-      (action-behind p ls c places stale lines names right.code.texts right.named set x.block one.start one.flow one.fine one.free one.at w u e)
+      carried (places_for more set) set state (target_of (scene_in p set).here.states x.target) one.flow Stray L (one.behind x clause) go _ _
+      (action-behind p ls c places old lines names right.code.texts right.named set x.block one.start one.flow one.fine one.free one.at w u e)
+
+-- ---- pieces of a program of which none is
+
+-- no more is hidden
+pub none-more : (hidden : List Places) → with_more hidden [] ≡ hidden
+none-more [] = refl
+none-more (s ∷ hidden) = refl
+
+module _ (p : ProgramTree) (ls : List Link) (c : Code) (hidden : List Places) (stale lines : List ℕ) (names : List (List ℕ)) (right : AreFlowsOf p ls c hidden stale lines names) where
+  -- what is hidden is right with no free channel
+  pub none-free : AreChosenFlowsOf p ls c hidden stale lines names no_share
+  none-free = record {
+    code = right.code;
+    shown = λ name piece state start is runs found.
+        let one = right.shown name piece state start is runs found in
+        record {
+          flow = one.flow;
+          shown = subst (λ (old : List ℕ). IsShown (ground_of p ls c (all_in hidden state) old lines names) (set_of piece) (places_for hidden (set_of piece)).always
+              c.instrs.items start one.flow) (sym (append-nil stale)) one.shown;
+          behind = subst (λ (more : List Places). IsBehindPiece p more name one.flow) (sym (none-more hidden)) one.behind;
+        };
+    wide = right.wide;
+    some = right.some;
+    behind = right.behind;
+    are_free = record {
+      shown = λ set k never. absurd (false≢true never);
+      comes = λ set link e home t at begins low never. absurd (false≢true never);
+      queueless = λ link e t at some low. refl;
+    };
+    named = right.named;
+  }
+
+  -- as much is stale
+  pub none-fewer : (k : ℕ) → has stale k ≡ true → has (stale ++ []) k ≡ true
+  none-fewer k here = subst (λ (old : List ℕ). has old k ≡ true) (sym (append-nil stale)) here
 
 -- the law
 pub pieces_flow : PiecesFlow
-pieces_flow p ls c hidden stale lines names right name piece state places is runs between = each-flows p ls c hidden stale lines names right name piece state places is runs between
+pieces_flow p ls c hidden stale lines names right name piece state places is runs between =
+    each-flows p ls c hidden stale lines names no_share (none-free p ls c hidden stale lines names right) stale (none-fewer p ls c hidden stale lines names right)
+    name piece state places is runs between

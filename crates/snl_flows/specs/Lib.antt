@@ -5,9 +5,11 @@ pub mod Tables
 pub mod Fine
 pub mod Quiet
 pub mod Flows
+pub mod Chosen
 pub mod Settled
 pub mod Unwritten
 pub mod Spared
 pub mod Checks
 pub mod QuietChecks
 pub mod Examples
+pub mod ChosenExamples

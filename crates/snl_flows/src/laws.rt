@@ -1,6 +1,8 @@
 //! Laws of variables that decide nothing. Each is a function without code, whose contract is the law.
 
 ghost use Rattle.snl_flows.specs.QuietChecks.{ChecksAreRight};
+ghost use Rattle.snl_flows.specs.Chosen.{LinesFlowByChoice};
+ghost use Rattle.snl_flows.specs.ChosenExamples.{ChosenExamples};
 ghost use Rattle.snl_flows.specs.Examples.{FlowsExamples};
 ghost use Rattle.snl_flows.specs.Flows.{EventsFlow, LinesFlow, NothingIsLeftOut, NothingIsStale, PiecesFlow};
 ghost use Rattle.snl_flows.specs.Outside.{BuffersAreSame};
@@ -21,6 +23,11 @@ pub fn lines_flow()
 /// So do they with other values of a channel of which all may differ.
 pub fn events_flow()
     ensures { EventsFlow }
+{}
+
+/// Where the values of some channels are chosen, lines of a program come out alike, or the second run strays.
+pub fn lines_flow_by_choice()
+    ensures { LinesFlowByChoice }
 {}
 
 /// Where a table shows that code writes no word of a free link, its pieces keep links settled.
@@ -69,4 +76,10 @@ pub fn checks_are_right()
 #[tactic(auto, using(crate::proofs::Examples::examples_of_flows))]
 pub fn examples_of_flows()
     ensures { FlowsExamples }
+{}
+
+/// A variable of a free channel that one of two states reads.
+#[tactic(auto, using(crate::proofs::ChosenExamples::examples_of_choice))]
+pub fn examples_of_choice()
+    ensures { ChosenExamples }
 {}
