@@ -28,6 +28,7 @@ pub mod Nothing
 pub mod LineLaws
 pub mod Shares
 pub mod ChosenLaws
+pub mod ChosenLinks
 pub mod Settled
 pub mod SettledLines
 pub mod SettledWords

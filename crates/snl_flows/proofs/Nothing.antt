@@ -1,11 +1,13 @@
--- With no line nothing is left out, with no name texts are the same, and with no stale place buffers are.
-use Rattle.std.proofs.Common.{◌≡◌, ◌∙◌, ◌+◌, refl, ap, subst, arith, ℕ, suc, ℤ, true, List, [], ◌∷◌, ◌++◌}
+-- With no line nothing is left out, with no name texts are the same, and with no stale place buffers are. Worlds are the same either way.
+use Rattle.std.proofs.Common.{◌≡◌, ◌∙◌, ◌+◌, refl, sym, ap, subst, arith, ℕ, suc, ℤ, true, List, [], ◌∷◌, ◌++◌}
 use Rattle.snl_meaning.specs.declared.faults.Fault.{Fault}
 use Rattle.snl_meaning.specs.declared.faults.Fault.TheVariants.{Overflow, DivisionByZero, OutOfRange, DoesNotFit, BadShift, BudgetSpent}
 use Rattle.snl_flows.specs.Flows.{NothingIsLeftOut, NothingIsStale}
 use Rattle.snl_flows.specs.LeftOut.{IsLeftOut}
-use Rattle.snl_flows.specs.Outside.{AreSameOutside, BuffersAreSame, has}
+use Rattle.snl_meaning.specs.World.{World, copy_of}
+use Rattle.snl_flows.specs.Outside.{AreSameOutside, BuffersAreSame, IsSameCopy, IsSameOutside, SameEitherWay, has, hidden_in, places_of, places_with}
 use Rattle.snl_flows.specs.Texts.{SameButValues, NoLines, SameLine, OtherValues, OtherNumbers, FirstPrints, SecondPrints}
+use Rattle.snl_flows.proofs.ByState.{places-same}
 
 -- no line is one of none
 none-has : (line : ℕ) → has [] line ≡ true → ⊥
@@ -56,3 +58,27 @@ nothing_is_stale g none = record {
   hides = λ set link e home t at begins low stale. absurd (none-has (t.from + e) (subst (λ (places : List ℕ). has places (t.from + e) ≡ true) none stale));
   queued = λ link e t at some low. ap (λ (places : List ℕ). has places (t.from + e)) none;
 }
+
+-- ---- either way
+
+-- words are the same outside of some places
+words-back : (places : List ℕ) (words others : List ℤ) → AreSameOutside places words others → AreSameOutside places others words
+words-back places words others same = record { long = sym same.long; at = λ k free. sym (same.at k free) }
+
+-- so are worlds, where the same is hidden in both
+outside-back : (places others : List (List ℕ)) (stale : List ℕ) (w u : World) → places ≡ others → IsSameOutside places stale w u → IsSameOutside others stale u w
+outside-back places others stale w u hides e = record {
+  same = ap (λ (v : World). record v { copies = w.copies; shared = w.shared; buffers = w.buffers }) (sym e.same);
+  long = sym e.long;
+  count = sym e.count;
+  copies = λ set.
+      subst (λ (rows : List (List ℕ)). IsSameCopy (places_of rows set) (copy_of set u) (copy_of set w)) hides
+      (record { state = sym (e.copies set).state; entered = sym (e.copies set).entered; long = sym (e.copies set).long; at = λ k free. sym ((e.copies set).at k free) });
+  buffers = words-back stale w.buffers u.buffers e.buffers;
+}
+
+-- and so they are but for what is hidden in their states, which are the same
+pub same_either_way : SameEitherWay
+same_either_way hidden stale w u e =
+    outside-back (hidden_in hidden w) (hidden_in hidden u) stale w u
+    (places-same w.phase hidden w.copies u.copies (λ n. (e.copies n).state) ∙ ap (λ (v : World). places_with v.phase hidden u.copies) e.same) e

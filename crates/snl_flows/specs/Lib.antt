@@ -8,6 +8,7 @@ pub mod Flows
 pub mod Chosen
 pub mod Settled
 pub mod Unwritten
+pub mod ChosenLinks
 pub mod Spared
 pub mod Checks
 pub mod QuietChecks

@@ -86,3 +86,7 @@ IsSameByState hidden stale w u = IsSameOutside (hidden_in hidden w) stale w u
 -- With no stale place buffers are the same.
 abbrev pub BuffersAreSame : Type 0
 BuffersAreSame = (hidden : List (List ℕ)) (w u : World) → IsSameOutside hidden [] w u → w.buffers ≡ u.buffers
+
+-- Two worlds are the same but for what is hidden in their states, either way.
+abbrev pub SameEitherWay : Type 0
+SameEitherWay = (hidden : List Places) (stale : List ℕ) (w u : World) → IsSameByState hidden stale w u → IsSameByState hidden stale u w

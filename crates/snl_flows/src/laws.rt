@@ -3,9 +3,10 @@
 ghost use Rattle.snl_flows.specs.QuietChecks.{ChecksAreRight};
 ghost use Rattle.snl_flows.specs.Chosen.{LinesFlowByChoice};
 ghost use Rattle.snl_flows.specs.ChosenExamples.{ChosenExamples};
+ghost use Rattle.snl_flows.specs.ChosenLinks.{ChoicesAreOfValues, LinksCanBeChosen, SettledHaveSame};
 ghost use Rattle.snl_flows.specs.Examples.{FlowsExamples};
 ghost use Rattle.snl_flows.specs.Flows.{EventsFlow, LinesFlow, NothingIsLeftOut, NothingIsStale, PiecesFlow};
-ghost use Rattle.snl_flows.specs.Outside.{BuffersAreSame};
+ghost use Rattle.snl_flows.specs.Outside.{BuffersAreSame, SameEitherWay};
 ghost use Rattle.snl_flows.specs.Settled.{LinesSettle};
 ghost use Rattle.snl_flows.specs.Spared.{LinesSpare, PiecesSpare};
 ghost use Rattle.snl_flows.specs.Unwritten.{PiecesSettle};
@@ -28,6 +29,26 @@ pub fn events_flow()
 /// Where the values of some channels are chosen, lines of a program come out alike, or the second run strays.
 pub fn lines_flow_by_choice()
     ensures { LinesFlowByChoice }
+{}
+
+/// Links that can be free are so by their words, and any of them may be chosen.
+pub fn links_can_be_chosen()
+    ensures { LinksCanBeChosen }
+{}
+
+/// Links that are settled have the same in two worlds where their buffers do, and no copy is marked for them.
+pub fn settled_have_same()
+    ensures { SettledHaveSame }
+{}
+
+/// Worlds that are the same but for all free words are alike by a choice of links that have the same in both.
+pub fn choices_are_of_values()
+    ensures { ChoicesAreOfValues }
+{}
+
+/// Two worlds that are the same but for what is hidden in their states are so either way.
+pub fn same_either_way()
+    ensures { SameEitherWay }
 {}
 
 /// Where a table shows that code writes no word of a free link, its pieces keep links settled.
