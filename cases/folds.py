@@ -42,6 +42,12 @@ int a; assign a to "A"; monitor a;
 int n;
 ss s { state one { when (a > n) { n = n + 1; printf("%d", n % 30); if (n % 30 < EXTRA) printf("more"); } state one } }
 """
+# Steps of a long trace that are not ten milliseconds, by their lines, and what is told of a jump.
+JUMPS = [
+    ("a jump", {7_002: 90_000_000}, ["# the clock jumps by 1 day at line 7002"]),
+    ("a jump at its begin", {3: 90_000_000, 9_000: 3_599_999}, ["# the clock jumps by 1 day at line 3"]),
+    ("a jump and a long step", {7_002: 90_000_000, 9_000: 3_600_000}, []),
+]
 
 
 @dataclass
@@ -72,6 +78,8 @@ def cases(root):
         yield Fold(f"snl run: {name}, in under a hundred lines", lambda *it, s=source, t=trace: stands_for(*it, s, t, most=100))
     for size, extra, most in ((60, 0, 130), (61, 1, None)):
         yield Fold(f"snl run: a block of {size} lines", lambda *it, e=extra, m=most: block(*it, e, m))
+    for name, steps, told in JUMPS:
+        yield Fold(f"snl run: a long trace with {name}", lambda *it, s=steps, t=told: jumps(*it, s, t))
     yield Fold("snl run --whole: a trace that comes slowly", slowly)
     yield Fold("snl run: memory over many lines as over a few", memory, of_memory=True)
 
@@ -124,6 +132,19 @@ def block(programs, folder, extra, most):
     lines = [it for it in folded if not it.startswith("#")]
     is_folded = any(AGAIN.fullmatch(it) for it in folded)
     return wrong or ("" if is_folded == (most is not None) and (most is None or len(lines) < most) else f"{len(lines)} lines, folded: {is_folded}")
+
+
+def jumps(programs, folder, steps, told):
+    """A trace of which several pieces come: the jump is told wherever it is, and none where another step is long too."""
+    (folder / "p.st").write_text(MANUAL)
+    now, lines = 0, ["0 up MANUAL\n"]
+    for number in range(2, 12_001):
+        now += steps.get(number, 10)
+        lines.append(f"{now} val MANUAL 0\n")
+    ran = called(programs, "snl", folder, ["run", "p.st"], "".join(lines))
+    written = ran.stdout.splitlines()
+    found = [it for it in written if "clock jumps" in it]
+    return "" if found == told and "10 start hand" in written else f"{found}, not {told}, in {len(written)} lines"
 
 
 def slowly(programs, folder):
