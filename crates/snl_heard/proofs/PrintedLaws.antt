@@ -1,5 +1,5 @@
 -- Laws of an output to which a line is added.
-use Rattle.std.proofs.Common.{◌≡◌, ◌≢◌, ◌∙◌, ◌&&◌, ◌<◌, ℕ, suc, Bool, true, false, cond, List, [], ◌∷◌, ◌++◌, All, Option, None, Some, bytes_eq, codes, drop, eqb, filter, get_or, length, map, not, take, refl, ap, sym, subst, arith, append_assoc, append-nil}
+use Rattle.std.proofs.Common.{◌≡◌, ◌≢◌, ◌∙◌, ◌&&◌, ◌<◌, ℕ, suc, true, false, cond, List, [], ◌∷◌, ◌++◌, All, Option, None, Some, bytes_eq, codes, drop, eqb, filter, get_or, length, map, not, take, refl, ap, sym, subst, arith, append_assoc, append-nil}
 use Rattle.std.proofs.lemmas.Bool.{ne_eqb}
 use Rattle.std.proofs.lemmas.List.{map-append}
 use Rattle.std.proofs.lemmas.List.Elements.{All-append, All-cons, All-get_or, filter-append}

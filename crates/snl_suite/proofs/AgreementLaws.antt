@@ -1,8 +1,7 @@
 -- Laws of how an output stands beside the wanted one.
-use Rattle.std.proofs.Common.{◌≡◌, ◌≢◌, ◌↔◌, ◌≤◌, ◌<◌, ◌+◌, ◌-◌, ◌∙◌, ◌++◌, ℕ, Bool, true, List, [], ap, append_assoc, append-nil, arith, drop, length, length-append, refl, slice_range, sym, take}
+use Rattle.std.proofs.Common.{◌≡◌, ◌≢◌, ◌≤◌, ◌<◌, ◌+◌, ◌-◌, ◌∙◌, ◌++◌, ℕ, Bool, true, List, [], ap, append_assoc, append-nil, arith, drop, length, length-append, refl, slice_range, sym, take}
 use Rattle.std.proofs.lemmas.List.{append_cancel_left, drop-drop, drop-take, take-append-drop, take-append-le, take-take}
-use Rattle.snl_suite.specs.Agreement.{IsApart, IsSettled, MayFollow, SettledIsExact}
-use Rattle.snl_suite.specs.declared.agreement.Agreement.{Agreement}
+use Rattle.snl_suite.specs.Agreement.{IsApart, IsSettled, SettledIsExact}
 use Rattle.snl_suite.specs.declared.agreement.Agreement.TheVariants.{Apart, Broken, Same}
 
 -- the first bytes of a part of a text

@@ -1,5 +1,5 @@
 -- Laws of a file of counts that is read line by line.
-use Rattle.std.proofs.Common.{◌≡◌, ◌≢◌, ◌<◌, ◌≤◌, ◌+◌, ◌^◌, ◌∙◌, ℕ, List, [], ◌∷◌, ◌++◌, All, ap, append_assoc, arith, drop, get_or, length, refl, subst, sym, take}
+use Rattle.std.proofs.Common.{◌≡◌, ◌≢◌, ◌<◌, ◌≤◌, ◌+◌, ◌^◌, ◌∙◌, ℕ, List, [], ◌∷◌, ◌++◌, All, ap, append_assoc, arith, drop, get_or, length, sym, take}
 use Rattle.std.proofs.lemmas.List.{append-nil, drop_more, length-append, length-drop, length-map, length-take-le, map-append, map_more, take-append-drop, take_all}
 use Rattle.std.proofs.lemmas.List.Elements.{All-drop}
 use Rattle.snl_tallies.specs.Counts.{IsNoFileOf, counts_of, line_of, names_of, text_of}

@@ -1,5 +1,5 @@
 -- Laws of texts and their lines.
-use Rattle.std.proofs.Common.{◌≡◌, ◌==◌, ◌&&◌, ◌≤◌, ◌<◌, ◌+◌, ◌-◌, ℕ, suc, zero, Bool, true, false, not, List, [], ◌∷◌, ◌++◌, length, take, get_or, Option, None, Some, refl, ap, ◌∙◌, arith, append_assoc, append-nil, inl, inr, if◌then◌else◌}
+use Rattle.std.proofs.Common.{◌≡◌, ◌==◌, ◌<◌, ◌+◌, ◌-◌, ℕ, suc, zero, true, false, not, List, [], ◌∷◌, ◌++◌, length, take, get_or, None, Some, refl, ap, ◌∙◌, arith, append_assoc, append-nil, inl, inr, if◌then◌else◌}
 use Rattle.std.proofs.lemmas.Bool.{and_from, and_parts, cases_Bool, not-true}
 use Rattle.memchr.specs.Find.{IsFirstByte, Nowhere, Passes, is_byte}
 use Rattle.snl_watch.specs.Folding.{lines_behind, lines_of}

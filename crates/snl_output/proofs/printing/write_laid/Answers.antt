@@ -1,4 +1,4 @@
-use Rattle.std.proofs.Common.{◌≡◌, ◌∙◌, ◌++◌, List, ℕ, ap, decimal, rules, subst, sym, take}
+use Rattle.std.proofs.Common.{◌∙◌, ◌++◌, List, ℕ, ap, decimal, subst, sym}
 use Rattle.snl_output.specs.Devices.{Wrote}
 use Rattle.snl_output.specs.Formats.{shown_in}
 use Rattle.snl_output.specs.Spelled.{spelled_in}

@@ -1,5 +1,4 @@
 use Rattle.std.proofs.Common.{◌≡◌, drop, map}
-use Rattle.snl_meaning.specs.Links.{marked_from}
 use Rattle.snl_vm.specs.AllHomes.{homes_views, takers_of}
 use Rattle.snl_vm.specs.Marks.{marks_of}
 use Rattle.snl_vm.proofs.AllHomeLaws.{marked_in}

@@ -1,6 +1,5 @@
-use Rattle.std.proofs.Common.{◌≡◌, ◌∙◌, ◌≤◌, ℕ, List, [], ◌++◌, length, sym, ap, subst, arith}
+use Rattle.std.proofs.Common.{◌≤◌, ℕ, List, [], ◌++◌, length, subst, arith}
 use Rattle.snl_watch.specs.Blocks.{told_again}
-use Rattle.snl_watch.specs.Folding.{without_time}
 use Rattle.snl_watch.specs.Folds.{Folds}
 use Rattle.snl_watch.specs.Recents.{recent_texts}
 use Rattle.snl_watch.proofs.FoldLaws.{tells-both, knows-none, printed, told-both}

@@ -1,4 +1,4 @@
-use Rattle.std.proofs.Common.{◌≡◌, ◌∙◌, sym, ℕ, List, refl, subst, true}
+use Rattle.std.proofs.Common.{sym, subst}
 use Rattle.snl_watch.specs.Folds.{Folds}
 use Rattle.snl_watch.proofs.FoldLaws.{folds-as, nothing}
 use Rattle.snl_watch.proofs.folder.Folder.new.Goals as goal

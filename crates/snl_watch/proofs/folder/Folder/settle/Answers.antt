@@ -1,4 +1,4 @@
-use Rattle.std.proofs.Common.{◌≡◌, ◌∙◌, ℕ, List, [], sym, refl}
+use Rattle.std.proofs.Common.{ℕ, List, [], sym, refl}
 use Rattle.std.proofs.Math.Logic.{∥∥₁_map}
 use Rattle.snl_watch.proofs.FoldLaws.{folds-as, told-before}
 use Rattle.snl_watch.proofs.folder.Folder.settle.Goals as goal

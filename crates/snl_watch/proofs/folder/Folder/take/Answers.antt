@@ -1,4 +1,4 @@
-use Rattle.std.proofs.Common.{rules, ◌≡◌, ◌∙◌, ◌++◌, ap, sym, ℕ, List, take}
+use Rattle.std.proofs.Common.{rules, ℕ, List, take}
 use Rattle.std.proofs.Math.Logic.{∥∥₁_map}
 use Rattle.snl_watch.proofs.FoldLaws.{folds-as, line-taken, told-piece, took}
 use Rattle.snl_watch.proofs.LineLaws.{in-line-front}

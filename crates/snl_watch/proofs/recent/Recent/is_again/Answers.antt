@@ -1,11 +1,9 @@
-use Rattle.std.proofs.Common.{rules, ◌≡◌, ◌∙◌, sym, ap, ℕ, List, map, length, slice_get, drop, option_map, Some, ◌-◌, true}
+use Rattle.std.proofs.Common.{rules, ◌≡◌, ◌∙◌, sym, ap, ℕ, List, map, length, slice_get, drop, option_map, Some, ◌-◌}
 use Rattle.std.proofs.lemmas.Bool.Decides.{Decides-eqb}
 use Rattle.std.proofs.lemmas.Slice.Eq.{slice_eq-Decides}
 use Rattle.std.proofs.lemmas.Option.{slice_get-map}
 use Rattle.std.proofs.lemmas.List.{length-map}
-use Rattle.arrayvec.specs.ArrayVec.{ArrayVec}
 use Rattle.snl_watch.specs.Folding.{without_time}
-use Rattle.snl_watch.specs.Recents.{recent_texts}
 use Rattle.snl_watch.proofs.recent.Recent.is_again.Goals as goal
 
 -- a view of what stands at a place

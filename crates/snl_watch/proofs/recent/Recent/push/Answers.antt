@@ -1,6 +1,6 @@
 use Rattle.std.proofs.Common.{rules, ◌≡◌, ◌∙◌, ◌++◌, ◌∷◌, [], sym, ap, ℕ, List, map, length, ◌-◌, drop}
 use Rattle.std.proofs.lemmas.List.{length-map, drop-map, map-append}
-use Rattle.circular_buffer.specs.Buffer.{Buffer, keep_last, buffer}
+use Rattle.circular_buffer.specs.Buffer.{keep_last}
 use Rattle.snl_watch.specs.Folding.{without_time}
 use Rattle.snl_watch.specs.Recents.{recent_texts}
 use Rattle.snl_watch.proofs.recent.Recent.push.Goals as goal
